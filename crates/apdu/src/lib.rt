@@ -5,6 +5,8 @@ mod application;
 mod command;
 mod refusal;
 mod status;
+#[cfg(test)]
+mod tests;
 
 pub use application::Application;
 pub use command::Case;

@@ -70,7 +70,7 @@ impl Status {
     {
         Status {
             sw1: 0x69,
-            sw2: 0x86,
+            sw2: 0x86, // no current elementary file
         }
     }
 
@@ -100,7 +100,7 @@ impl Status {
     {
         Status {
             sw1: 0x6a,
-            sw2: 0x86,
+            sw2: 0x86, // incorrect P1 P2
         }
     }
 

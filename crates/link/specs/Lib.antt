@@ -1,0 +1,4 @@
+pub mod Turns
+pub mod Direct
+pub mod Results
+pub mod Meant
