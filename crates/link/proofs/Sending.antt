@@ -58,8 +58,8 @@ module _ {V : Type 0} (app : App V) (d : Direct (app .State)) (c : Command) wher
       part = take (c .ne) (does app (d .state) c .reply .answer)
 
       by : Bool → Did (Direct (app .State))
-      by t = cond t (record { after = record { state = d .state; told = nearer (d .told) }; gave = Gave.denied 5; buffer = buffer })
-          (record { after = record { state = does app (d .state) c .state; told = nearer (d .told) }; gave = given c (does app (d .state) c .reply); buffer = opened part buffer })
+      by t = cond t (record { after = record { state = d .state; told = nearer (d .told) }; gave = Gave.denied 5; buffer = buffer; characters = [] })
+          (record { after = record { state = does app (d .state) c .state; told = nearer (d .told) }; gave = given c (does app (d .state) c .reply); buffer = opened part buffer; characters = [] })
 
   -- The same, where the application ran on an equal state and what was told came by an equation.
   pub sends-from : (x : app .State) (told : Option ℕ) → x ≡ d .state → told ≡ nearer (d .told)

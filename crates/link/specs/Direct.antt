@@ -1,6 +1,6 @@
 use Prim.Native.Nat.{ℕ, zero, suc}
 use mathlib.Core.Bool.{Bool, true, false, cond}
-use mathlib.Core.List.{List}
+use mathlib.Core.List.{List, []}
 use lib.ListN.{length, take}
 use Rattle.std.specs.declared.option.Option.{Option}
 use Rattle.std.specs.declared.option.Option.the-variants.{Some, None}
@@ -26,9 +26,9 @@ nearer None = None
 nearer (Some zero) = Some zero
 nearer (Some (suc n)) = Some n
 
--- A turn that leaves this state, gave this and left its buffer so.
+-- A turn that leaves this state, gave this and left its buffer so. No character crosses.
 abbrev pub settled : {S : Type 0} → Direct S → S → Gave → List ℕ → Did (Direct S)
-settled d x g buffer = record { after = record { state = x; told = nearer (d .told) }; gave = g; buffer = buffer }
+settled d x g buffer = record { after = record { state = x; told = nearer (d .told) }; gave = g; buffer = buffer; characters = [] }
 
 -- What a command that was done gave: the first Ne answer bytes, or all if fewer, and the status.
 abbrev pub given : Command → Reply → Gave

@@ -6,6 +6,7 @@ use lib.Dec.{ltb, leb, eqb}
 use Rattle.std.specs.declared.option.Option.{Option}
 use Rattle.std.specs.declared.option.Option.the-variants.{Some, None}
 use Rattle.apdu.specs.declared.status.Status.{Status}
+use Rattle.wire.specs.declared.traced.Traced.{Traced}
 use Rattle.link.specs.declared.turn.Turn.{Turn}
 
 -- What a turn orders: that a command be sent, given as bytes, or a warm reset.
@@ -33,11 +34,12 @@ pub record Entry : Type 0 where
   pub program : ℕ
   pub gave : Gave
 
--- What a turn leaves: whatever took it, as it then is, what it gave, and its answer buffer.
+-- What a turn leaves: whatever took it, as it then is, what it gave, its answer buffer, and the characters that crossed.
 pub record Did (M : Type 0) : Type 0 where
   pub after : M
   pub gave : Gave
   pub buffer : List ℕ
+  pub characters : List Traced
 
 -- One turn as it went: the program, its order, the answer buffer handed to it, and what it left.
 pub record Went (M : Type 0) : Type 0 where

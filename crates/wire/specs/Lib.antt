@@ -1,0 +1,4 @@
+pub mod Records
+pub mod Lines
+pub mod MarkedLines
+pub mod PeriodicLines
