@@ -1,0 +1,4 @@
+pub mod PurseBalances
+pub mod PursePlaces
+pub mod PurseAmounts
+pub mod PurseLaws

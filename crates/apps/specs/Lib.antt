@@ -1,0 +1,2 @@
+pub mod Purse
+pub mod PurseState
