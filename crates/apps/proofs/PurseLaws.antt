@@ -49,7 +49,7 @@ lawful ms = of-run ms (λ o. Carries-data (o .reply)) (λ _ _. refl) (λ _ h. ab
 pub refusal-keeps : Refusal-keeps
 refusal-keeps ms = of-run ms (λ o. (o .reply .status ≡ done → ⊥) → o .state ≡ ms) (λ _ h. absurd (h refl)) (λ _ _. refl)
 
-balance-recorded : (ms : List ℤ) (m : ℤ) → balance (recorded ms m) ≡ balance ms +ℤ m
+pub balance-recorded : (ms : List ℤ) (m : ℤ) → balance (recorded ms m) ≡ balance ms +ℤ m
 balance-recorded ms m =
     cond-both (leb 32 (length ms)) (joined ms) ms (λ (xs : List ℤ). balance (xs ++ (m ∷ [])) ≡ balance ms +ℤ m)
     (λ _. balance-push (joined ms) m ∙ ap (λ (b : ℤ). b +ℤ m) (balance-joined ms))
