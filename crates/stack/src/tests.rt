@@ -50,10 +50,7 @@ fn file_is_selected_and_read() -> Result<(), Fail> {
         0x9000,
     )?;
     check_eq(front(&answer), 0x41428002)?;
-    check_eq(
-        outcome(card.send(b"\x00\xB0\x00\x00\x00", &mut short)),
-        4,
-    )?;
+    check_eq(outcome(card.send(b"\x00\xB0\x00\x00\x00", &mut short)), 4)?;
     check(card.reset().is_ok())?;
     check_eq(
         outcome(card.send(b"\x00\xB0\x00\x00\x00", &mut answer)),
