@@ -25,4 +25,5 @@ returns c =
       after = c .play .ensures .after ∙ closes p s _ _ (c .finish-step .ensures .state) (c .finish-step .ensures .value) (tells-finished p (meaning (c .args .self .now .reader)));
       count = count;
       fits = omega (arith, within, count, c .play .array-long);
-      bytes = bytes }
+      bytes = bytes;
+    }

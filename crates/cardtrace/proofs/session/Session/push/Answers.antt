@@ -25,4 +25,5 @@ returns c =
       after = c .play .ensures .after ∙ closes p s _ _ (c .push-step .ensures .state) (c .push-step .ensures .value) (tells-fed p (meaning (c .args .self .now .reader)) (c .args .byte));
       count = count;
       fits = omega (arith, within, count, c .play .array-long);
-      bytes = bytes }
+      bytes = bytes;
+    }
