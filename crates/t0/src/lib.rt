@@ -1,0 +1,16 @@
+// The transport T=0: the card, driven by single characters by any terminal; the terminal, driven by single characters by any
+// card; and the link that joins the two over any line.
+mod header;
+mod settings;
+mod terminal;
+pub use header::Header;
+pub use settings::Settings;
+pub use settings::Style;
+pub use terminal::Holding;
+pub use terminal::Kind;
+pub use terminal::Phase;
+pub use terminal::Ready;
+pub use terminal::Step;
+pub use terminal::Token;
+pub use terminal::Waiting;
+pub use terminal::Want;
