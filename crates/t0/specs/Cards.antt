@@ -65,8 +65,8 @@ abbrev pub outward-ran : {S : Type 0} → Settings → Header → ℕ → Outcom
 outward-ran s h n o =
     cond (eqb (length (o .reply .answer)) 0) (says (o .state) nothing (says-status s (o .reply .status)))
     (cond (leb n (length (o .reply .answer)))
-      (says (o .state) nothing (moves-out s (h .ins) (take n (o .reply .answer)) ++ says-status s (o .reply .status)))
-      (says (o .state) (by6C h (o .reply)) (closes s 0x6C (length (o .reply .answer)))))
+    (says (o .state) nothing (moves-out s (h .ins) (take n (o .reply .answer)) ++ says-status s (o .reply .status)))
+    (says (o .state) (by6C h (o .reply)) (closes s 0x6C (length (o .reply .answer)))))
 
 -- An inward command that ran: without answer bytes the status; else 61 and the count, and the answer is held.
 abbrev pub inward-ran : {S : Type 0} → Settings → Outcome S → Card S
@@ -80,8 +80,8 @@ abbrev pub fetched : {S : Type 0} → Settings → S → Held → ℕ → Card S
 fetched s x nothing n = says x nothing (closes s 0x69 0x85)
 fetched s x (by61 r) n =
     cond (leb n (length (r .answer)))
-      (says x nothing (moves-out s 0xC0 (take n (r .answer)) ++ says-status s (r .status)))
-      (says x (by61 r) (closes s 0x6C (length (r .answer))))
+    (says x nothing (moves-out s 0xC0 (take n (r .answer)) ++ says-status s (r .status)))
+    (says x (by61 r) (closes s 0x6C (length (r .answer))))
 fetched s x (by6C g r) n = says x nothing (closes s 0x69 0x85)
 
 module _ {V : Type 0} (app : App V) (s : Settings) where
@@ -98,9 +98,9 @@ module _ {V : Type 0} (app : App V) (s : Settings) where
   begun x h p3 =
       cond (reserved (h .cla) (h .ins)) (says x nothing (closes s 0x6D 0x00))
       (cond (inward (h .ins))
-        (cond (eqb p3 0) (runs-inward x h [])
-          (record { state = x; held = nothing; stage = taking h p3 []; pending = procedure s (mover (s .style) (h .ins)) }))
-        (runs-outward x h p3))
+      (cond (eqb p3 0) (runs-inward x h [])
+      (record { state = x; held = nothing; stage = taking h p3 []; pending = procedure s (mover (s .style) (h .ins)) }))
+      (runs-outward x h p3))
 
   -- An answer held by 6C is moved, and dropped, for the same header with P3 the held count, without a run.
   abbrev pub answered : app .State → Held → Header → ℕ → Card (app .State)
@@ -108,8 +108,8 @@ module _ {V : Type 0} (app : App V) (s : Settings) where
   answered x (by61 r) h p3 = begun x h p3
   answered x (by6C g r) h p3 =
       cond (same-header g h && eqb p3 (length (r .answer)))
-        (says x nothing (moves-out s (h .ins) (r .answer) ++ says-status s (r .status)))
-        (begun x h p3)
+      (says x nothing (moves-out s (h .ins) (r .answer) ++ says-status s (r .status)))
+      (begun x h p3)
 
   -- A whole header.
   abbrev pub headed : app .State → Held → Header → ℕ → Card (app .State)
@@ -137,7 +137,7 @@ module _ {V : Type 0} (app : App V) (s : Settings) where
   abbrev pub data-so-far : Card (app .State) → Header → ℕ → List ℕ → Card (app .State)
   data-so-far c h lc xs =
       cond (leb lc (length xs)) (runs-inward (c .state) h xs)
-        (record { state = c .state; held = c .held; stage = taking h lc xs; pending = asks-next (s .style) (h .ins) })
+      (record { state = c .state; held = c .held; stage = taking h lc xs; pending = asks-next (s .style) (h .ins) })
 
   abbrev pub at-stage : Card (app .State) → Stage → ℕ → Card (app .State)
   at-stage c (heading bs) b = header-so-far c (bs ++ (b ∷ []))

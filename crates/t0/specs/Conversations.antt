@@ -68,10 +68,13 @@ module _ {V : Type 0} (app : App V) (s : Settings) (body : List ℕ) where
   abbrev pub terminal-speaks : Joined (app .State) → ℕ → Spoken (app .State)
   terminal-speaks j b =
       let t = sent-once (j .coming) (record { card = false; byte = b }) in
-      record { characters = t .characters; after =
-        cond (t .arrived)
-          (on (record { terminal = has-sent (j .terminal) (j .terminal .phase); card = received app s (j .card) b; staged = j .staged; coming = t .coming }))
-          (off (record { end = lost; card = j .card; staged = j .staged; coming = t .coming; characters = [] })) }
+      record {
+        characters = t .characters;
+        after =
+            cond (t .arrived)
+            (on (record { terminal = has-sent (j .terminal) (j .terminal .phase); card = received app s (j .card) b; staged = j .staged; coming = t .coming }))
+            (off (record { end = lost; card = j .card; staged = j .staged; coming = t .coming; characters = [] }));
+      }
 
   -- What the terminal makes of a character that arrived.
   abbrev pub by-step : Card (app .State) → List ℕ → Damage → ℕ → Step → After (app .State)
@@ -87,10 +90,13 @@ module _ {V : Type 0} (app : App V) (s : Settings) (body : List ℕ) where
   card-speaks j [] = record { characters = []; after = off (ended broken j) }
   card-speaks j (b ∷ _) =
       let t = sent-once (j .coming) (record { card = true; byte = b }) in
-      record { characters = t .characters; after =
-        cond (t .arrived)
-          (by-step (spoken (j .card)) (j .staged) (t .coming) b (hears (j .terminal) (j .terminal .phase) b))
-          (off (record { end = lost; card = spoken (j .card); staged = j .staged; coming = t .coming; characters = [] })) }
+      record {
+        characters = t .characters;
+        after =
+            cond (t .arrived)
+            (by-step (spoken (j .card)) (j .staged) (t .coming) b (hears (j .terminal) (j .terminal .phase) b))
+            (off (record { end = lost; card = spoken (j .card); staged = j .staged; coming = t .coming; characters = [] }));
+      }
 
   abbrev pub by-want : Joined (app .State) → Want → Spoken (app .State)
   by-want j (Send b) = terminal-speaks j b
@@ -113,8 +119,8 @@ module _ {V : Type 0} (app : App V) (s : Settings) (body : List ℕ) where
   then-fetch n t (done count status) = t
   then-fetch n t (held token) =
       cond (eqb (token .ne) 0)
-        (record { end = done 0 statuses.done; card = t .card; staged = t .staged; coming = t .coming; characters = t .characters })
-        (before (t .characters) (talk n (record { terminal = fetches token; card = t .card; staged = t .staged; coming = t .coming })))
+      (record { end = done 0 statuses.done; card = t .card; staged = t .staged; coming = t .coming; characters = t .characters })
+      (before (t .characters) (talk n (record { terminal = fetches token; card = t .card; staged = t .staged; coming = t .coming })))
   then-fetch n t broken = t
   then-fetch n t lost = t
 

@@ -21,9 +21,9 @@ abbrev pub tried : Damage → Bool → ℕ → ℕ → Delivered
 tried d card b zero = record { arrived = false; characters = []; coming = d }
 tried d card b (suc left) =
     cond (d 0)
-      (let rest = tried (later d) card b left in
-       record { arrived = rest .arrived; characters = traced card b true ∷ rest .characters; coming = rest .coming })
-      (record { arrived = true; characters = traced card b false ∷ []; coming = later d })
+    (let rest = tried (later d) card b left in
+    record { arrived = rest .arrived; characters = traced card b true ∷ rest .characters; coming = rest .coming })
+    (record { arrived = true; characters = traced card b false ∷ []; coming = later d })
 
 -- A character has four tries.
 abbrev pub sent-once : Damage → Word → Delivered

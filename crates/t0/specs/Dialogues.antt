@@ -45,10 +45,10 @@ abbrev pub after-outward : Settings → Command → Reply → List Word
 after-outward s c r =
     cond (eqb (length (r .answer)) 0) (from-card (says-status s (r .status)))
     (cond (leb (c .ne) (length (r .answer)))
-      (from-card (moves-out s (c .ins) (take (c .ne) (r .answer)) ++ says-status s (r .status)))
-      (from-card (closes s 0x6C (length (r .answer)))
-        ++ (from-terminal (header (header-of c) (length (r .answer)))
-        ++ from-card (moves-out s (c .ins) (r .answer) ++ says-status s (r .status)))))
+    (from-card (moves-out s (c .ins) (take (c .ne) (r .answer)) ++ says-status s (r .status)))
+    (from-card (closes s 0x6C (length (r .answer)))
+    ++ (from-terminal (header (header-of c) (length (r .answer)))
+    ++ from-card (moves-out s (c .ins) (r .answer) ++ says-status s (r .status)))))
 
 -- After an inward command ran: the status alone, where there is no answer; else 61 and the count, and, unless Ne is 0, GET
 -- RESPONSE for the smaller of the count and Ne, as many bytes and the status.
@@ -56,10 +56,10 @@ abbrev pub after-inward : Settings → Command → Reply → List Word
 after-inward s c r =
     cond (eqb (length (r .answer)) 0) (from-card (says-status s (r .status)))
     (from-card (closes s 0x61 (as-p3 (length (r .answer))))
-      ++ cond (eqb (c .ne) 0) []
-        (let n = min (length (r .answer)) (c .ne) in
-         from-terminal (header (get-response (c .cla)) (as-p3 n))
-           ++ from-card (moves-out s 0xC0 (take n (r .answer)) ++ says-status s (r .status))))
+    ++ cond (eqb (c .ne) 0) []
+    (let n = min (length (r .answer)) (c .ne) in
+    from-terminal (header (get-response (c .cla)) (as-p3 n))
+    ++ from-card (moves-out s 0xC0 (take n (r .answer)) ++ says-status s (r .status))))
 
 -- A dialogue: what is said until the application runs, and what is said then.
 pub record Dialogue : Type 0 where
@@ -70,9 +70,11 @@ pub record Dialogue : Type 0 where
 abbrev pub dialogue : Settings → Command → Reply → Dialogue
 dialogue s c r =
     cond (inward (c .ins))
-      (record { opening = from-terminal (header (header-of c) (length (c .body))) ++ moved-in (s .style) s (c .ins) (c .body);
-                closing = after-inward s c r })
-      (record { opening = from-terminal (header (header-of c) (as-p3 (c .ne))); closing = after-outward s c r })
+    (record {
+      opening = from-terminal (header (header-of c) (as-p3 (length (c .body)))) ++ moved-in (s .style) s (c .ins) (c .body);
+      closing = after-inward s c r;
+    })
+    (record { opening = from-terminal (header (header-of c) (as-p3 (c .ne))); closing = after-outward s c r })
 
 abbrev pub whole : Dialogue → List Word
 whole d = d .opening ++ d .closing

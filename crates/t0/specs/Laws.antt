@@ -46,5 +46,5 @@ Conversation-law app = (s : Settings) (bytes : List ℕ) (room : ℕ) (c : Comma
     → judged bytes room ≡ passes c → Between h → length staged ≡ 256
     → length (does app x c .reply .answer) ≤ 256 → Carries-data (does app x c .reply)
     → let o = does app x c in
-      Comes-to c x o (deliver d (whole (dialogue s c (o .reply)))) (deliver d (dialogue s c (o .reply) .opening)) staged
-        (converse app s (c .body) most (record { terminal = sends c; card = at-rest x h; staged = staged; coming = d }))
+    Comes-to c x o (deliver d (whole (dialogue s c (o .reply)))) (deliver d (dialogue s c (o .reply) .opening)) staged
+    (converse app s (c .body) most (record { terminal = sends c; card = at-rest x h; staged = staged; coming = d }))

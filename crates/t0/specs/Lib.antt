@@ -4,5 +4,6 @@ pub mod Dialogues
 pub mod Delivery
 pub mod Cards
 pub mod Terminals
+pub mod Starts
 pub mod Conversations
 pub mod Laws

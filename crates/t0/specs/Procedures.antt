@@ -2,7 +2,7 @@ use Prim.Native.Nat.{ℕ, _-_}
 use mathlib.Core.Bool.{Bool, true, false, cond, _&&_, _||_}
 use mathlib.Core.List.{List, [], _∷_, _++_}
 use lib.ListN.{replicate}
-use lib.Dec.{leb, eqb}
+use lib.Dec.{leb, ltb}
 use Rattle.apdu.specs.declared.status.Status.{Status}
 use Rattle.t0.specs.declared.header.Header.{Header}
 use Rattle.t0.specs.declared.settings.Settings.{Settings}
@@ -13,9 +13,9 @@ use Rattle.t0.specs.declared.settings.Style.the-variants.{Whole, Bytewise}
 abbrev pub header : Header → ℕ → List ℕ
 header h p3 = h .cla ∷ (h .ins ∷ (h .p1 ∷ (h .p2 ∷ (p3 ∷ []))))
 
--- P3 of 256 bytes is 00.
+-- P3 of 256 bytes is 00; there are never more.
 abbrev pub as-p3 : ℕ → ℕ
-as-p3 n = cond (eqb n 256) 0 n
+as-p3 n = cond (ltb n 256) n 0
 
 -- The header of GET RESPONSE with this CLA: INS C0, P1 P2 00 00.
 abbrev pub get-response : ℕ → Header

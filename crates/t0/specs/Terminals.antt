@@ -31,8 +31,8 @@ heading-for h p3 kind ne total = record { header = h; p3 = p3; kind = kind; ne =
 -- A command that was read and passes: P3 is Lc for an inward one, Le for an outward one.
 abbrev pub sends : Command → Waiting
 sends c =
-    cond (inward (c .ins)) (heading-for (header-of c) (length (c .body)) Inward (c .ne) (length (c .body)))
-      (heading-for (header-of c) (as-p3 (c .ne)) Outward (c .ne) (c .ne))
+    cond (inward (c .ins)) (heading-for (header-of c) (as-p3 (length (c .body))) Inward (c .ne) (length (c .body)))
+    (heading-for (header-of c) (as-p3 (c .ne)) Outward (c .ne) (c .ne))
 
 abbrev pub at-phase : Waiting → Phase → Waiting
 at-phase w p = record { header = w .header; p3 = w .p3; kind = w .kind; ne = w .ne; total = w .total; due = w .due; phase = p }
@@ -87,7 +87,7 @@ procedure-byte w b =
 
 -- 61 is for the inward command itself: the answer is held, and 00 counts as 256.
 abbrev pub holds : Waiting → Kind → ℕ → Step
-holds w Inward count = Held (record { }) (record { cla = w .header .cla; ne = w .ne; held = wanted count })
+holds w Inward count = Held (record {}) (record { cla = w .header .cla; ne = w .ne; held = wanted count })
 holds w Outward count = Broken
 holds w Repeated count = Broken
 holds w Response count = Broken
@@ -98,7 +98,7 @@ abbrev pub repeats : Waiting → Kind → ℕ → Step
 repeats w Inward count = Broken
 repeats w Outward count =
     cond (eqb (w .due) (w .total) && (ltb 0 count && ltb count (w .total)))
-      (Next (heading-for (w .header) count Repeated (w .ne) count)) Broken
+    (Next (heading-for (w .header) count Repeated (w .ne) count)) Broken
 repeats w Repeated count = Broken
 repeats w Response count = Broken
 
@@ -117,7 +117,7 @@ count-moved w Response = place w
 
 abbrev pub done-with : ℕ → Option Status → Step
 done-with count None = Broken
-done-with count (Some status) = Done (record { }) count status
+done-with count (Some status) = Done (record {}) count status
 
 abbrev pub ends : Waiting → ℕ → ℕ → Step
 ends w sw1 sw2 = cond (is-part w (w .kind)) Broken (done-with (count-moved w (w .kind)) (status-of sw1 sw2))

@@ -3,9 +3,13 @@
 mod header;
 mod settings;
 mod terminal;
+
 pub use header::Header;
 pub use settings::Settings;
 pub use settings::Style;
+pub use terminal::Begun;
+pub use terminal::Discarded;
+pub use terminal::Fetched;
 pub use terminal::Holding;
 pub use terminal::Kind;
 pub use terminal::Phase;

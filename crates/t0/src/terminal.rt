@@ -1,4 +1,5 @@
 use crate::header::Header;
+use apdu::Refusal;
 use apdu::Status;
 
 // What a header that was sent asks for: data inward; an answer outward; the answer of an outward command whose header is
@@ -69,4 +70,23 @@ pub enum Step {
     Broken,
 }
 
+// What a command comes to: it is being sent; or it is refused, and the terminal is ready as before.
+pub enum Begun {
+    Sending(Waiting),
+    Refused(Ready, Refusal),
+}
+
+// What a fetch comes to: the held answer is asked for; or none of it is wanted, and nothing was spent.
+pub enum Fetched {
+    Asking(Waiting),
+    Unwanted(Holding, Token),
+}
+
+// What a discard comes to: the command is done, with a status; or some of the answer is wanted, and nothing was spent.
+pub enum Discarded {
+    Done(Ready, Status),
+    Wanted(Holding, Token),
+}
+
+mod begin;
 mod drive;

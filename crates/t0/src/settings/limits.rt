@@ -3,7 +3,6 @@ ghost use mathlib.Core.Bool.{cond};
 ghost use lib.Dec.{leb};
 ghost use Rattle.std.specs.declared.option.Option.the-variants.{Some, None};
 ghost use Rattle.t0.specs.Limits.{set-to};
-
 use crate::settings::Settings;
 use crate::settings::Style;
 use apdu::SettingRefusal;

@@ -3,7 +3,6 @@ ghost use mathlib.Core.Bool.{true};
 ghost use Rattle.t0.specs.Procedures.{as-p3, is-sw1, get-response};
 ghost use Rattle.t0.specs.Terminals.{heading-for, header-byte, place, wants, has-sent, hears, procedure-byte, move, closed, holds, repeats, is-part, count-moved, done-with, fetches, moving, at-phase, one-fewer};
 ghost use Rattle.apdu.specs.Commands.{wanted};
-
 use crate::header::Header;
 use crate::terminal::Holding;
 use crate::terminal::Kind;
@@ -51,17 +50,57 @@ impl Waiting {
     pub fn sent(self) -> Waiting
         ensures { λ r. ⌜ r ≡ has-sent self (self .phase) ⌝ }
     {
-        let Waiting { header, p3, kind, ne, total, due, phase } = self;
+        let Waiting {
+            header,
+            p3,
+            kind,
+            ne,
+            total,
+            due,
+            phase,
+        } = self;
         match phase {
             Phase::Heading(n) => {
-                let phase = if n < 4 { Phase::Heading(n + 1) } else { Phase::Procedure };
-                Waiting { header, p3, kind, ne, total, due, phase }
+                let phase = if n < 4 {
+                    Phase::Heading(n + 1)
+                } else {
+                    Phase::Procedure
+                };
+                Waiting {
+                    header,
+                    p3,
+                    kind,
+                    ne,
+                    total,
+                    due,
+                    phase,
+                }
             }
             Phase::Sending(n) => {
-                let phase = if n <= 1 { Phase::Procedure } else { Phase::Sending(n - 1) };
-                Waiting { header, p3, kind, ne, total, due: due.saturating_sub(1), phase }
+                let phase = if n <= 1 {
+                    Phase::Procedure
+                } else {
+                    Phase::Sending(n - 1)
+                };
+                Waiting {
+                    header,
+                    p3,
+                    kind,
+                    ne,
+                    total,
+                    due: due.saturating_sub(1),
+                    phase,
+                }
             }
-            Phase::Procedure | Phase::Receiving(_) | Phase::Closing(_) => Waiting { header, p3, kind, ne, total, due, phase },
+            Phase::Procedure | Phase::Receiving(_) | Phase::Closing(_) => Waiting {
+                header,
+                p3,
+                kind,
+                ne,
+                total,
+                due,
+                phase,
+            },
         }
     }
 
@@ -81,10 +120,33 @@ impl Waiting {
     fn keep(self, n: usize) -> Step
         ensures { λ r. ⌜ r ≡ hears self (Phase.Receiving n) 0 ⌝ }
     {
-        let Waiting { header, p3, kind, ne, total, due, phase: _ } = self;
-        let phase = if n <= 1 { Phase::Procedure } else { Phase::Receiving(n - 1) };
+        let Waiting {
+            header,
+            p3,
+            kind,
+            ne,
+            total,
+            due,
+            phase: _,
+        } = self;
+        let phase = if n <= 1 {
+            Phase::Procedure
+        } else {
+            Phase::Receiving(n - 1)
+        };
         let place = total.saturating_sub(due);
-        Step::Keep(Waiting { header, p3, kind, ne, total, due: due.saturating_sub(1), phase }, place)
+        Step::Keep(
+            Waiting {
+                header,
+                p3,
+                kind,
+                ne,
+                total,
+                due: due.saturating_sub(1),
+                phase,
+            },
+            place,
+        )
     }
 
     // A procedure byte.
@@ -116,15 +178,33 @@ impl Waiting {
         }
         match self.kind {
             Kind::Inward => Step::Next(self.at(Phase::Sending(n))),
-            Kind::Outward | Kind::Repeated | Kind::Response => Step::Next(self.at(Phase::Receiving(n))),
+            Kind::Outward | Kind::Repeated | Kind::Response => Step::Next(self.at(Phase::Receiving(
+                n,
+            ))),
         }
     }
 
     fn at(self, phase: Phase) -> Waiting
         ensures { λ r. ⌜ r ≡ at-phase self phase ⌝ }
     {
-        let Waiting { header, p3, kind, ne, total, due, phase: _ } = self;
-        Waiting { header, p3, kind, ne, total, due, phase }
+        let Waiting {
+            header,
+            p3,
+            kind,
+            ne,
+            total,
+            due,
+            phase: _,
+        } = self;
+        Waiting {
+            header,
+            p3,
+            kind,
+            ne,
+            total,
+            due,
+            phase,
+        }
     }
 
     // SW2 after SW1.
@@ -142,9 +222,24 @@ impl Waiting {
     fn hold(self, count: u8) -> Step
         ensures { λ r. ⌜ r ≡ holds self (self .kind) count ⌝ }
     {
-        let Waiting { header, p3: _, kind, ne, total: _, due: _, phase: _ } = self;
+        let Waiting {
+            header,
+            p3: _,
+            kind,
+            ne,
+            total: _,
+            due: _,
+            phase: _,
+        } = self;
         match kind {
-            Kind::Inward => Step::Held(Holding {}, Token { cla: header.cla, ne, held: wanted(count) }),
+            Kind::Inward => Step::Held(
+                Holding {},
+                Token {
+                    cla: header.cla,
+                    ne,
+                    held: wanted(count),
+                },
+            ),
             Kind::Outward | Kind::Repeated | Kind::Response => Step::Broken,
         }
     }
@@ -153,12 +248,28 @@ impl Waiting {
     fn repeat(self, count: u8) -> Step
         ensures { λ r. ⌜ r ≡ repeats self (self .kind) count ⌝ }
     {
-        let Waiting { header, p3: _, kind, ne, total, due, phase: _ } = self;
+        let Waiting {
+            header,
+            p3: _,
+            kind,
+            ne,
+            total,
+            due,
+            phase: _,
+        } = self;
         let n = count as usize;
         match kind {
             Kind::Outward => {
                 if due == total && n > 0 && n < total {
-                    Step::Next(Waiting { header, p3: count, kind: Kind::Repeated, ne, total: n, due: n, phase: Phase::Heading(0) })
+                    Step::Next(Waiting {
+                        header,
+                        p3: count,
+                        kind: Kind::Repeated,
+                        ne,
+                        total: n,
+                        due: n,
+                        phase: Phase::Heading(0),
+                    })
                 } else {
                     Step::Broken
                 }
@@ -171,7 +282,15 @@ impl Waiting {
     fn end(self, sw1: u8, sw2: u8) -> Step
         ensures { λ r. ⌜ r ≡ Rattle.t0.specs.Terminals.ends self sw1 sw2 ⌝ }
     {
-        let Waiting { header: _, p3: _, kind, ne: _, total, due, phase: _ } = self;
+        let Waiting {
+            header: _,
+            p3: _,
+            kind,
+            ne: _,
+            total,
+            due,
+            phase: _,
+        } = self;
         let Some(status) = Status::new(sw1, sw2) else {
             return Step::Broken;
         };
