@@ -2,6 +2,7 @@ pub mod Limits
 pub mod Procedures
 pub mod Dialogues
 pub mod Delivery
+pub mod Carrying
 pub mod Cards
 pub mod Terminals
 pub mod Starts

@@ -1,5 +1,6 @@
 // The transport T=0: the card, driven by single characters by any terminal; the terminal, driven by single characters by any
 // card; and the link that joins the two over any line.
+mod carry;
 mod header;
 mod settings;
 mod terminal;
