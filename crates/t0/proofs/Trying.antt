@@ -63,14 +63,17 @@ module _ (full : Delivered) (d f : Damage) (by : Bool) (b i : ℕ) (cs : List Tr
   noted-as x e = subst (λ (y : Bool). Grew between beyond (traced by b y ∷ [])) e noted
 
   pub goes-on : isSome r ≡ false → (ds : List Traced) × (Grew before beyond ds × (full ≡ after ds (tried f by b (4 - (i + 1)))))
-  goes-on s =
-      (cs ++ (traced by b true ∷ []),
-        (grew-then so-far (noted-as true (flipped none true (sym is ∙ s))),
-         inv ∙ ap (after cs) (tried-miss d f by b i small (gave-none (d 0) b r gave s) left) ∙ after-after cs (traced by b true ∷ []) (tried f by b (4 - (i + 1)))))
+  goes-on s = (
+    cs ++ (traced by b true ∷ []),
+    (
+      grew-then so-far (noted-as true (flipped none true (sym is ∙ s))),
+      inv ∙ ap (after cs) (tried-miss d f by b i small (gave-none (d 0) b r gave s) left) ∙ after-after cs (traced by b true ∷ []) (tried f by b (4 - (i + 1))),
+    ),
+  )
 
   pub arrives : isSome r ≡ true → Carries b full r f before beyond
   arrives s =
       let whole = gave-some (d 0) b r gave s in
       let e : full ≡ record { arrived = true; characters = cs ++ (traced by b false ∷ []); coming = later d } = inv ∙ ap (after cs) (tried-hit d by b i small whole) in
       subst (λ (t : Delivered). Carries b t r f before beyond) (sym e)
-        (record { result = whole-some (d 0) b r gave whole; line = fun-ext left; trace = grew-then so-far (noted-as false (flipped none false (sym is ∙ s))) })
+      (record { result = whole-some (d 0) b r gave whole; line = fun-ext left; trace = grew-then so-far (noted-as false (flipped none false (sym is ∙ s))) })

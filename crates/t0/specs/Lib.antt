@@ -4,6 +4,7 @@ pub mod Dialogues
 pub mod Delivery
 pub mod Carrying
 pub mod Cards
+pub mod CardValues
 pub mod Terminals
 pub mod Starts
 pub mod Conversations

@@ -1,10 +1,12 @@
 // The transport T=0: the card, driven by single characters by any terminal; the terminal, driven by single characters by any
 // card; and the link that joins the two over any line.
+mod card;
 mod carry;
 mod header;
 mod settings;
 mod terminal;
 
+pub use card::Card;
 pub use header::Header;
 pub use settings::Settings;
 pub use settings::Style;

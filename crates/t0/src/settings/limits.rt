@@ -17,4 +17,16 @@ impl Settings {
         }
         Ok(Settings { waits, style })
     }
+
+    pub(crate) fn waits(self) -> u8
+        ensures { λ r. ⌜ r ≡ self .waits ⌝ }
+    {
+        self.waits
+    }
+
+    pub(crate) fn style(self) -> Style
+        ensures { λ r. ⌜ r ≡ self .style ⌝ }
+    {
+        self.style
+    }
 }

@@ -10,4 +10,4 @@ use Rattle.t0.proofs.carry.carry.Given as given
 abbrev pub Inv-loop : given.InvT-loop
 Inv-loop g l =
     (cs : List Traced) × (Grew (l .entry .trace) (l .trace) cs
-      × (tried (g .L·Line .damage (l .entry .line)) (l .by-card) (l .byte) 4 ≡ after cs (tried (g .L·Line .damage (l .line)) (l .by-card) (l .byte) (4 - l .counter))))
+    × (tried (g .L·Line .damage (l .entry .line)) (l .by-card) (l .byte) 4 ≡ after cs (tried (g .L·Line .damage (l .line)) (l .by-card) (l .byte) (4 - l .counter))))
