@@ -4,6 +4,7 @@ mod card;
 mod carry;
 mod header;
 mod settings;
+mod talk;
 mod terminal;
 
 pub use card::Card;
