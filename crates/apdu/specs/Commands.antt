@@ -18,9 +18,9 @@ pub record Command : Type 0 where
   pub body : List ℕ
   pub ne : ℕ
 
--- Le as a count: 00 means 256.
+-- Le as a count: 00 means 256. (A number above 255 is no byte; it counts as 256 too, so that no count is larger.)
 abbrev pub wanted : ℕ → ℕ
-wanted le = cond (eqb le 0) 256 le
+wanted le = cond (eqb le 0) 256 (cond (leb le 255) le 256)
 
 -- The fifth byte is Lc, and `body` is what follows it: Lc data bytes (case 3), or these and Le (case 4). Lc is 1 to 255.
 abbrev pub with-data : ℕ → ℕ → ℕ → ℕ → ℕ → List ℕ → Option Command

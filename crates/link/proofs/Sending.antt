@@ -1,20 +1,22 @@
-use Prim.Native.Nat.{ℕ, _+_, _-_, _≤_, _<_, min}
+use Prim.Native.Nat.{ℕ, _+_, _-_, _≤_, min}
 use native.Mathlib.Omega.{arith}
 use native.Mathlib.Nat.{sub-zero}
 use mathlib.Core.Path.{_≡_, refl, sym, _∙_, ap, subst}
-use mathlib.Core.Bool.{Bool, true, false, cond}
-use mathlib.Core.List.{List, [], _∷_, _++_, append-assoc}
+use mathlib.Core.Bool.{Bool, false, cond}
+use mathlib.Core.List.{List, [], _++_, append-assoc}
 use lib.ListN.{length, take, drop, length-take, length-append, take-append-drop}
 use lib.Seq.{take-at}
 use Rattle.std.specs.declared.option.Option.{Option}
-use Rattle.std.specs.declared.result.Result.the-variants.{Ok, Err}
-use Rattle.apdu.specs.Applications.{App, Outcome, Reply, opened, does}
+use Rattle.std.specs.declared.result.Result.the-variants.{Ok}
+use Rattle.apdu.specs.Applications.{App, opened, does}
 use Rattle.apdu.specs.Commands.{Command}
 use Rattle.apdu.specs.Judging.{Judged, passes, judged}
 use Rattle.apdu.specs.declared.status.Status.{Status}
-use Rattle.link.specs.Direct.{Direct, directly, direct-send, nearer, over, given}
-use Rattle.link.specs.Results.{Sends}
-use Rattle.link.specs.Turns.{Did, Gave, gives, send}
+use Rattle.apdu.proofs.Judging.{passes-room}
+use Rattle.wire.specs.declared.traced.Traced.{Traced}
+use Rattle.link.specs.Direct.{Direct, directly, direct-send, nearer, over, given, settled}
+use Rattle.link.specs.Results.{Answers, Sends, wanted-of}
+use Rattle.link.specs.Turns.{Did, gives, denied, send}
 
 -- An answer that opened a buffer is no longer than the buffer.
 pub opened-short : (answer buffer whole : List ℕ) → whole ≡ opened answer buffer → length answer ≤ length whole
@@ -30,54 +32,54 @@ opens answer old buffer got whole n ne en eb eg =
     split : opened answer old ≡ take ne answer ++ (drop ne answer ++ drop (length answer) old)
     split = ap (λ (z : List ℕ). z ++ drop (length answer) old) (sym (take-append-drop ne answer)) ∙ append-assoc (take ne answer) (drop ne answer) (drop (length answer) old)
 
-pub counts : (answer : List ℕ) (a n ne : ℕ) → n ≡ min a ne → a ≡ length answer → n ≡ length (take ne answer)
-counts answer a n ne e h = omega (arith, length-take ne answer)
+pub counts : (answer : List ℕ) (a n ne room : ℕ) → n ≡ min (min a ne) room → a ≡ length answer → n ≡ length (take (min ne room) answer)
+counts answer a n ne room e h = omega (arith, length-take (min ne room) answer)
 
-module _ {V : Type 0} (app : App V) (d : Direct (app .State)) (c : Command) where
-  -- All that a send does is what the direct card does, where the command passes and no loss has come.
-  pub sends-done : (z : app .State) (bytes buffer left : List ℕ) (n : ℕ) (s : Status)
-      → passes c ≡ judged bytes (length buffer) → over (d .told) ≡ false
-      → z ≡ does app (d .state) c .state
-      → n ≡ length (take (c .ne) (does app (d .state) c .reply .answer))
-      → left ≡ opened (take (c .ne) (does app (d .state) c .reply .answer)) buffer
-      → s ≡ does app (d .state) c .reply .status
-      → Sends (directly app d (send bytes) buffer) (record { state = z; told = nearer (d .told) }) left (Ok (n, s))
-  sends-done z bytes buffer left n s ej et es en eb el =
-      subst (λ (q : Judged). Sends (direct-send app d buffer q) (record { state = z; told = nearer (d .told) }) left (Ok (n, s))) ej
-      (subst (λ (t : Bool). Sends (by t) (record { state = z; told = nearer (d .told) }) left (Ok (n, s))) (sym et)
-      (record {
-        after = ap (λ (x : app .State). record { state = x; told = nearer (d .told) }) es;
-        wrote = eb;
-        gave = ap (λ (k : ℕ). gives (take k left) s) en ∙ ap (λ (l : List ℕ). gives (take (length part) l) s) eb
-            ∙ ap (λ (l : List ℕ). gives l s) (take-at part (drop (length part) buffer) (length part) refl)
-            ∙ ap (λ (t : Status). gives part t) el;
-        count = en;
-      }))
-    where
-      part : List ℕ
-      part = take (c .ne) (does app (d .state) c .reply .answer)
+-- A command that was done, where its answer fits: what an application's run did is what the turn left.
+pub done-sends : {V : Type 0} (app : App V) (x z : app .State) (c : Command) (buffer left : List ℕ) (r : ℕ × Status)
+    → c .ne ≤ length buffer → Answers app x c buffer z left r
+    → {M : Type 0} (m n : M) (cs : List Traced) → n ≡ m
+    → Sends (record { after = m; gave = given c (does app x c .reply); buffer = opened (take (c .ne) (does app x c .reply .answer)) buffer; characters = cs }) n left (Ok r)
+done-sends app x z c buffer left r room h {M} m n cs e =
+    record {
+      after = e;
+      wrote = wrote;
+      gave = ap (λ (k : ℕ). gives (take k left) (r .1)) count ∙ ap (λ (l : List ℕ). gives (take (length part) l) (r .1)) wrote
+          ∙ ap (λ (l : List ℕ). gives l (r .1)) (take-at part (drop (length part) buffer) (length part) refl)
+          ∙ ap (λ (t : Status). gives part t) (h .status);
+      count = count;
+    }
+  where
+    part : List ℕ
+    part = take (c .ne) (does app x c .reply .answer)
 
-      by : Bool → Did (Direct (app .State))
-      by t = cond t (record { after = record { state = d .state; told = nearer (d .told) }; gave = Gave.denied 5; buffer = buffer; characters = [] })
-          (record { after = record { state = does app (d .state) c .state; told = nearer (d .told) }; gave = given c (does app (d .state) c .reply); buffer = opened part buffer; characters = [] })
+    all : wanted-of c (length buffer) (does app x c .reply .answer) ≡ part
+    all = ap (λ (k : ℕ). take k (does app x c .reply .answer)) (omega arith)
 
-  -- The same, where the application ran on an equal state and what was told came by an equation.
-  pub sends-from : (x : app .State) (told : Option ℕ) → x ≡ d .state → told ≡ nearer (d .told)
-      → (z : app .State) (bytes buffer left : List ℕ) (n : ℕ) (s : Status)
-      → passes c ≡ judged bytes (length buffer) → over (d .told) ≡ false
-      → z ≡ does app x c .state
-      → n ≡ length (take (c .ne) (does app x c .reply .answer))
-      → left ≡ opened (take (c .ne) (does app x c .reply .answer)) buffer
-      → s ≡ does app x c .reply .status
-      → Sends (directly app d (send bytes) buffer) (record { state = z; told = told }) left (Ok (n, s))
-  sends-from x told ex eo z bytes buffer left n s ej et =
-      subst P (sym ex) (λ es en eb el.
-      subst (λ (t : Option ℕ). Sends (directly app d (send bytes) buffer) (record { state = z; told = t }) left (Ok (n, s))) (sym eo)
-      (sends-done z bytes buffer left n s ej et es en eb el))
-    where
-      P : app .State → Type 0
-      P y = z ≡ does app y c .state
-          → n ≡ length (take (c .ne) (does app y c .reply .answer))
-          → left ≡ opened (take (c .ne) (does app y c .reply .answer)) buffer
-          → s ≡ does app y c .reply .status
-          → Sends (directly app d (send bytes) buffer) (record { state = z; told = told }) left (Ok (n, s))
+    wrote : left ≡ opened part buffer
+    wrote = h .wrote ∙ ap (λ (l : List ℕ). opened l buffer) all
+
+    count : r .0 ≡ length part
+    count = h .count ∙ ap length all
+
+-- At the direct card, where no loss has come.
+pub direct-sends : {V : Type 0} (app : App V) (d : Direct (app .State)) (c : Command) (x z : app .State) (told : Option ℕ) (bytes buffer left : List ℕ) (r : ℕ × Status)
+    → passes c ≡ judged bytes (length buffer) → over (d .told) ≡ false → x ≡ d .state → told ≡ nearer (d .told) → Answers app x c buffer z left r
+    → Sends (directly app d (send bytes) buffer) (record { state = z; told = told }) left (Ok r)
+direct-sends app d c x z told bytes buffer left r ej eo ex et h =
+    subst (λ (q : Judged). Sends (direct-send app d buffer q) after left (Ok r)) ej
+    (subst (λ (b : Bool). Sends (by b) after left (Ok r)) (sym eo)
+    (done-sends app (d .state) z c buffer left r (passes-room bytes (length buffer) (sym ej)) known (by false .after) after [] same))
+  where
+    after : Direct (app .State)
+    after = record { state = z; told = told }
+
+    known : Answers app (d .state) c buffer z left r
+    known = subst (λ (y : app .State). Answers app y c buffer z left r) ex h
+
+    same : after ≡ record { state = does app (d .state) c .state; told = nearer (d .told) }
+    same = cc (known .state, et)
+
+    by : Bool → Did (Direct (app .State))
+    by t = cond t (settled d (d .state) (denied 5) buffer)
+        (settled d (does app (d .state) c .state) (given c (does app (d .state) c .reply)) (opened (take (c .ne) (does app (d .state) c .reply .answer)) buffer))

@@ -1,4 +1,11 @@
 pub mod Turns
 pub mod Direct
+pub mod Meaning
 pub mod Results
 pub mod Meant
+pub mod Refusals
+pub mod Rows
+pub mod Runs
+pub mod Laws
+pub mod Exchange
+pub mod Examples

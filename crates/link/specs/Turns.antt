@@ -1,5 +1,5 @@
 use Prim.Native.Nat.{ℕ, suc, _+_}
-use mathlib.Core.Bool.{Bool, true, false, cond}
+use mathlib.Core.Bool.{Bool, false, cond}
 use mathlib.Core.List.{List, [], _∷_, _++_}
 use lib.ListN.{length, take, drop}
 use lib.Dec.{ltb, leb, eqb}
@@ -92,6 +92,10 @@ module _ {M : Type 0} (act : M → Order → List ℕ → Did M) where
       before-others (one m (t .program) (ordered commands t) space)
       (ran (d .after) commands (drop (taken (d .gave)) (d .buffer)) ts)
 
+  -- Turns of a run, then further ones on what these left free.
+  abbrev pub ran-on : Ran M → Ran M → Ran M
+  ran-on p q = record { turns = p .turns ++ q .turns; used = p .used ++ q .used; free = q .free; end = q .end }
+
   -- One call. A run whose journal has fewer free places than it has turns takes no turn and changes nothing.
   abbrev pub called : M → Call → Played M
   called m (alone program o buffer) =
@@ -120,6 +124,16 @@ journal (w ∷ ws) = record { program = w .program; gave = w .did .gave } ∷ jo
 abbrev pub answers : {M : Type 0} → List (Went M) → List (List ℕ)
 answers [] = []
 answers (w ∷ ws) = w .did .buffer ∷ answers ws
+
+-- The characters of all turns, in order.
+abbrev pub whole-trace : {M : Type 0} → List (Went M) → List Traced
+whole-trace [] = []
+whole-trace (w ∷ ws) = w .did .characters ++ whole-trace ws
+
+-- How many bytes of the data buffer turns take up.
+abbrev pub all-taken : {M : Type 0} → List (Went M) → ℕ
+all-taken [] = 0
+all-taken (w ∷ ws) = taken (w .did .gave) + all-taken ws
 
 -- Whether a turn gave refusal 5.
 abbrev pub five : Gave → Bool

@@ -8,6 +8,7 @@ ghost use Rattle.link.specs.Direct.{directly, over, nearer};
 ghost use Rattle.link.specs.Meant.{meant};
 ghost use Rattle.link.specs.Turns.{send, restart};
 ghost use Rattle.link.specs.Results.{Sends, Resets};
+use crate::answer::run_command;
 use apdu::Application;
 use apdu::Command;
 use apdu::Refusal;
@@ -38,18 +39,7 @@ impl<A: Application> DirectCard<A> {
         if lost {
             return Err(Refusal::Lost);
         }
-        let mut buffer = [0u8; 256];
-        let (count, status) = self.app.run(
-            command.cla,
-            command.ins,
-            command.p1,
-            command.p2,
-            command.body,
-            &mut buffer,
-        );
-        let n = count.min(command.ne);
-        answer[0..n].copy_from_slice(&buffer[0..n]);
-        Ok((n, status))
+        Ok(run_command(&mut self.app, command, answer))
     }
 
     // One turn that resets the card.

@@ -3,12 +3,15 @@
 mod card;
 mod carry;
 mod header;
+mod laws;
 mod settings;
 mod talk;
 mod terminal;
 
 pub use card::Card;
 pub use header::Header;
+pub use laws::conversation_law;
+pub use laws::lost_exactly;
 pub use settings::Settings;
 pub use settings::Style;
 pub use terminal::Begun;
