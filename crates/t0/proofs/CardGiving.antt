@@ -9,7 +9,7 @@ use Rattle.t0.specs.declared.settings.Style.{Style}
 use Rattle.t0.specs.declared.settings.Style.the-variants.{Whole, Bytewise}
 use Rattle.apdu.specs.declared.status.Status.{Status}
 use Rattle.t0.specs.declared.card.Giving.{Giving}
-use Rattle.t0.specs.Procedures.{mover, procedure, one-by-one, moved-out, moves-out, closes, says-status}
+use Rattle.t0.specs.Procedures.{mover, procedure, moved-out, moves-out, closes, says-status}
 use Rattle.t0.specs.Cards.{Card, Held, nothing, says}
 use Rattle.t0.specs.CardValues.{others, given-rest}
 

@@ -1,7 +1,7 @@
-use Prim.Native.Nat.{ℕ, zero, suc, _+_, _<_, _≤_}
+use Prim.Native.Nat.{ℕ, zero, suc, _+_, _<_}
 use native.Mathlib.Omega.{arith}
 use mathlib.Core.Path.{_≡_, refl, sym, _∙_, ap}
-use mathlib.Core.Bool.{Bool, true, false, cond, _||_}
+use mathlib.Core.Bool.{true, false, _||_}
 use mathlib.Core.List.{List, [], _∷_, _++_}
 use lib.ListN.{length, take, set, replicate}
 use lib.Dec.{leb, ltb}
@@ -14,7 +14,7 @@ use Rattle.t0.specs.declared.card.Card.{Card as Value}
 use Rattle.t0.specs.declared.card.Receiving.{Receiving}
 use Rattle.t0.specs.declared.card.Then.{Then}
 use Rattle.t0.specs.declared.card.Then.the-variants.{Nothing, Ask, Announce, Give, Close, End}
-use Rattle.t0.specs.Cards.{Card, Stage, taking, runs-inward, asks-next, data-so-far, by-pending, at-stage, received}
+use Rattle.t0.specs.Cards.{Card, taking, runs-inward, asks-next, data-so-far, by-pending, at-stage, received}
 use Rattle.t0.specs.CardValues.{characters-of, is-some, has-some, stage-of, meant}
 
 module _ {V : Type 0} (app : App V) (s : Settings) (c : Card (app .State)) (h : Header) (lc have byte : ℕ) (body : List ℕ) where

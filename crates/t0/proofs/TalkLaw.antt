@@ -218,7 +218,7 @@ module _ {V : Type 0} (app : App V) (s : Settings) (c : Command) (x : app .State
 pub conversation : {V : Type 0} (app : App V) → Conversation-law app
 conversation {V} app s bytes room c x kept d staged passes-so between full short carries =
     subst At (low-p3 (length (c .body)) (pass .shape .short))
-      (by-direction app s c x kept d staged pass between full short carries (inward (c .ins)) refl)
+    (by-direction app s c x kept d staged pass between full short carries (inward (c .ins)) refl)
   where
     pass : Passing c
     pass = passing bytes room passes-so
@@ -229,8 +229,8 @@ conversation {V} app s bytes room c x kept d staged passes-so between full short
     -- The law with this P3 in the header of an inward command.
     said-with : ℕ → Dialogue
     said-with p = cond (inward (c .ins)) (record { opening = from-terminal (header (header-of c) p) ++ moved-in (s .style) s (c .ins) (c .body); closing = after-inward s c (o .reply) })
-      (record { opening = from-terminal (header (header-of c) (as-p3 (c .ne))); closing = after-outward s c (o .reply) })
+        (record { opening = from-terminal (header (header-of c) (as-p3 (c .ne))); closing = after-outward s c (o .reply) })
 
     At : ℕ → Type 0
     At p = Comes-to c x o (deliver d (said-with p .opening ++ said-with p .closing)) (deliver d (said-with p .opening)) staged
-      (converse app s (c .body) most (record { terminal = cond (inward (c .ins)) (heading-for (header-of c) p Inward (c .ne) (length (c .body))) (asking c); card = at-rest x kept; staged = staged; coming = d }))
+        (converse app s (c .body) most (record { terminal = cond (inward (c .ins)) (heading-for (header-of c) p Inward (c .ne) (length (c .body))) (asking c); card = at-rest x kept; staged = staged; coming = d }))

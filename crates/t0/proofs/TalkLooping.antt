@@ -33,7 +33,7 @@ module _ {V : Type 0} (app : App V) (s : Settings) (body : List ℕ) where
   talk-more n j = which (speaks app s body j .after)
     where
       which : (a : After (app .State)) →
-        (elim a [ on i ↦ before (speaks app s body j .characters) (talk app s body n i) | off t ↦ before (speaks app s body j .characters) t ])
+          (elim a [ on i ↦ before (speaks app s body j .characters) (talk app s body n i) | off t ↦ before (speaks app s body j .characters) t ])
           ≡ by-after n (speaks app s body j .characters) a
       which (on i) = refl
       which (off t) = refl
@@ -56,29 +56,38 @@ module _ {V : Type 0} (app : App V) (s : Settings) (body : List ℕ) where
       unfolding k
       unrolled a e =
           inv ∙ ap (before cs) (ap (λ (n : ℕ). talk app s body n j) (let z : most - i ≡ suc (most - (i + 1)) = omega arith in z)
-            ∙ talk-more (most - (i + 1)) j ∙ ap (by-after (most - (i + 1)) (k .characters)) (sym e))
+          ∙ talk-more (most - (i + 1)) j ∙ ap (by-after (most - (i + 1)) (k .characters)) (sym e))
 
       pub goes-on : (w : Waiting) → Speaks (speaks app now body j) (On w) c left d t₁ t₂
           → (ds : List Traced) × (Grew t₀ t₂ ds × (full ≡ before ds (talk app s body (most - (i + 1)) (record { terminal = w; card = c; staged = left; coming = d }))))
       unfolding by-after
       goes-on w h =
-          let g = spoke-as (On w) h in
-          (cs ++ k .characters, (grew-then so-far (g .trace),
-            unrolled (after-of (On w) c left d) (g .goes) ∙ before-before cs (k .characters) (talk app s body (most - (i + 1)) (record { terminal = w; card = c; staged = left; coming = d }))))
+          let g = spoke-as (On w) h in (
+            cs ++ k .characters,
+            (
+              grew-then so-far (g .trace),
+              unrolled (after-of (On w) c left d) (g .goes) ∙ before-before cs (k .characters) (talk app s body (most - (i + 1)) (record { terminal = w; card = c; staged = left; coming = d })),
+            ),
+          )
 
       pub comes-off : (e : Ending) → Speaks (speaks app now body j) (Off e) c left d t₁ t₂ → Talks full e c left d t₀ t₂
       unfolding by-after
       comes-off e h =
           let g = spoke-as (Off e) h in
           let r : full ≡ before (cs ++ k .characters) (record { end = end-of e; card = c; staged = left; coming = d; characters = [] }) =
-            unrolled (after-of (Off e) c left d) (g .goes) ∙ before-before cs (k .characters) (record { end = end-of e; card = c; staged = left; coming = d; characters = [] }) in
+          unrolled (after-of (Off e) c left d) (g .goes) ∙ before-before cs (k .characters) (record { end = end-of e; card = c; staged = left; coming = d; characters = [] }) in
           subst (λ (t : Talked (app .State)). Talks t e c left d t₀ t₂) (sym r)
-            (record { end = refl; card = refl; staged = refl; line = refl;
-              trace = subst (λ (l : List Traced). Grew t₀ t₂ l) (sym (append-nil (cs ++ k .characters))) (grew-then so-far (g .trace)) })
+          (record {
+            end = refl;
+            card = refl;
+            staged = refl;
+            line = refl;
+            trace = subst (λ (l : List Traced). Grew t₀ t₂ l) (sym (append-nil (cs ++ k .characters))) (grew-then so-far (g .trace));
+          })
 
     -- No character is left.
     pub runs-out : most ≤ i → Talks full Broken (j .card) (j .staged) (j .coming) t₀ t₁
     runs-out long =
         let r : full ≡ before cs (ended broken j) = inv ∙ ap (before cs) (ap (λ (n : ℕ). talk app s body n j) (let z : most - i ≡ 0 = omega arith in z) ∙ talk-none j) in
         subst (λ (t : Talked (app .State)). Talks t Broken (j .card) (j .staged) (j .coming) t₀ t₁) (sym r)
-          (record { end = refl; card = refl; staged = refl; line = refl; trace = subst (λ (l : List Traced). Grew t₀ t₁ l) (sym (append-nil cs)) so-far })
+        (record { end = refl; card = refl; staged = refl; line = refl; trace = subst (λ (l : List Traced). Grew t₀ t₁ l) (sym (append-nil cs)) so-far })

@@ -52,17 +52,20 @@ module _ {V : Type 0} (app : App V) (s : Settings) where
     t = tried (j .coming) true b 4
 
     abbrev by : Bool → Spoken (app .State)
-    by x = record { characters = t .characters; after =
-      cond x (by-step app s [] (spoken (j .card)) (j .staged) (t .coming) b (hears (j .terminal) (j .terminal .phase) b))
-        (off (record { end = lost; card = spoken (j .card); staged = j .staged; coming = t .coming; characters = [] })) }
+    by x = record {
+      characters = t .characters;
+      after =
+          cond x (by-step app s [] (spoken (j .card)) (j .staged) (t .coming) b (hears (j .terminal) (j .terminal .phase) b))
+          (off (record { end = lost; card = spoken (j .card); staged = j .staged; coming = t .coming; characters = [] }));
+    }
 
     -- The character did not arrive.
     pub card-lost : (pending : List ℕ) → Some b ≡ next-of pending → Carries b t None d before after
         → Speaks (card-speaks app s [] j pending) (Off ending.Lost) c (j .staged) d before after
     card-lost pending e k =
         subst (λ (p : List ℕ). Speaks (card-speaks app s [] j p) (Off ending.Lost) c (j .staged) d before after) (sym (front b pending e))
-          (subst (λ (x : Bool). Speaks (by x) (Off ending.Lost) c (j .staged) d before after) (sym (not-there (t .arrived) b (k .result)))
-            (record { goes = gone; trace = k .trace }))
+        (subst (λ (x : Bool). Speaks (by x) (Off ending.Lost) c (j .staged) d before after) (sym (not-there (t .arrived) b (k .result)))
+        (record { goes = gone; trace = k .trace }))
       where
         gone : after-of {S = app .State} (Off ending.Lost) c (j .staged) d ≡ off (record { end = lost; card = spoken (j .card); staged = j .staged; coming = t .coming; characters = [] })
         gone = cc (ec, k .line)
@@ -73,8 +76,8 @@ module _ {V : Type 0} (app : App V) (s : Settings) where
         → Speaks (card-speaks app s [] j pending) r c left d before after
     card-heard pending r left a e k er el =
         subst (λ (p : List ℕ). Speaks (card-speaks app s [] j p) r c left d before after) (sym (front b pending e))
-          (subst (λ (x : Bool). Speaks (by x) r c left d before after) (sym (there (t .arrived) b a (k .result) .0))
-            (record { goes = goes; trace = k .trace }))
+        (subst (λ (x : Bool). Speaks (by x) r c left d before after) (sym (there (t .arrived) b a (k .result) .0))
+        (record { goes = goes; trace = k .trace }))
       where
         step : Step
         step = hears (j .terminal) (j .terminal .phase) b
@@ -95,4 +98,4 @@ pub data-sent : {V : Type 0} (app : App V) (s : Settings) (body : List ℕ) (j :
     → SendData i ≡ w → b ≡ getD body i 0 → Speaks (terminal-speaks app s [] j b) r c left d before after → Speaks (by-want app s body j w) r c left d before after
 data-sent app s body j w b i r c left d before after e eb k =
     subst (λ (x : Want). Speaks (by-want app s body j x) r c left d before after) e
-      (subst (λ (n : ℕ). Speaks (terminal-speaks app s body j n) r c left d before after) eb k)
+    (subst (λ (n : ℕ). Speaks (terminal-speaks app s body j n) r c left d before after) eb k)

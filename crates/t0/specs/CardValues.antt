@@ -1,24 +1,23 @@
 use Prim.Native.Nat.{ℕ, _+_}
-use mathlib.Core.Bool.{Bool, true, false, cond, not, _||_}
+use mathlib.Core.Bool.{Bool, true, false, cond, _||_}
 use mathlib.Core.List.{List, [], _∷_, _++_}
 use lib.ListN.{length, take, drop, getD, replicate}
-use lib.Dec.{leb, eqb, ltb}
+use lib.Dec.{leb, ltb}
 use Rattle.apdu.specs.Applications.{App, Outcome, Reply}
 use Rattle.t0.specs.declared.header.Header.{Header}
 use Rattle.t0.specs.declared.settings.Settings.{Settings}
 use Rattle.t0.specs.declared.settings.Style.{Style}
 use Rattle.t0.specs.declared.settings.Style.the-variants.{Whole, Bytewise}
-use Rattle.apdu.specs.declared.status.Status.{Status}
 use Rattle.t0.specs.declared.card.Answer.{Answer}
 use Rattle.t0.specs.declared.card.Card.{Card}
 use Rattle.t0.specs.declared.card.Giving.{Giving}
 use Rattle.t0.specs.declared.card.Kept.{Kept}
 use Rattle.t0.specs.declared.card.Kept.the-variants as kept
+use Rattle.t0.specs.declared.card.Out.{Out}
 use Rattle.t0.specs.declared.card.Receiving.{Receiving}
 use Rattle.t0.specs.declared.card.Receiving.the-variants as receiving
 use Rattle.t0.specs.declared.card.Reply as reply
 use Rattle.t0.specs.declared.card.Reply.the-variants.{Alone, With}
-use Rattle.t0.specs.declared.card.Out.{Out}
 use Rattle.t0.specs.declared.card.Then.{Then}
 use Rattle.t0.specs.declared.card.Then.the-variants.{Nothing, Ask, Announce, Give, Close, End}
 use Rattle.t0.specs.Cards as cards
@@ -30,12 +29,13 @@ abbrev pub others : Style → Settings → ℕ → List ℕ → List ℕ
 others Whole s ins xs = xs
 others Bytewise s ins xs = one-by-one s ins xs
 
--- What follows the next answer byte: the other bytes up to the last one, and the status.
+-- What follows the next answer byte in memory: the others up to the last one, and the status.
 abbrev pub given-rest : Settings → List ℕ → Giving → List ℕ
 given-rest s answer g =
     others (s .style) s (g .ins) (drop (g .at + 1) (take (g .last + 1) answer)) ++ says-status s (g .status)
 
--- The characters after the bytes 60.
+-- The characters after the bytes 60: none; the procedure byte that asks for data; the procedure byte of answer bytes, the next
+-- answer byte and what follows it; these two without the procedure byte; SW1 and SW2; SW2.
 abbrev pub characters-of : Settings → List ℕ → Then → List ℕ
 characters-of s answer Nothing = []
 characters-of s answer (Ask ins) = mover (s .style) ins ∷ []
@@ -44,10 +44,11 @@ characters-of s answer (Give g) = getD answer (g .at) 0 ∷ given-rest s answer 
 characters-of s answer (Close sw1 sw2) = sw1 ∷ (sw2 ∷ [])
 characters-of s answer (End sw2) = sw2 ∷ []
 
--- The characters that are still to be sent.
+-- The characters that are still to be sent: so many bytes 60 and those.
 abbrev pub pending-of : Settings → List ℕ → Out → List ℕ
 pending-of s answer out = replicate (out .waits) 0x60 ++ characters-of s answer (out .then)
 
+-- Whether any character follows the bytes 60.
 abbrev pub is-some : Then → Bool
 is-some Nothing = false
 is-some (Ask ins) = true
@@ -56,26 +57,26 @@ is-some (Give g) = true
 is-some (Close sw1 sw2) = true
 is-some (End sw2) = true
 
--- Whether any are.
+-- Whether any character is still to be sent.
 abbrev pub has-some : Out → Bool
 has-some out = ltb 0 (out .waits) || is-some (out .then)
 
--- An answer in memory: the bytes up to the last one, and the status.
+-- An answer that lies in memory: the bytes from the first place up to the last one, and the status.
 abbrev pub answer-of : List ℕ → Answer → Reply
 answer-of memory a = record { answer = take (a .last + 1) memory; status = a .status }
 
--- What the application replied.
+-- What the application replied: a status alone, or an answer that lies in memory.
 abbrev pub reply-of : List ℕ → reply.Reply → Reply
 reply-of memory (Alone status) = record { answer = []; status = status }
 reply-of memory (With a) = answer-of memory a
 
--- What is held.
+-- What is held, where answers lie in memory.
 abbrev pub held-of : List ℕ → Kept → Held
 held-of memory kept.Nothing = nothing
 held-of memory (kept.By61 a) = by61 (answer-of memory a)
 held-of memory (kept.By6C h a) = by6C h (answer-of memory a)
 
--- What is being received.
+-- What is being received, where the data so far open the memory.
 abbrev pub stage-of : List ℕ → Receiving → Stage
 stage-of memory receiving.Nothing = heading []
 stage-of memory (receiving.Cla cla) = heading (cla ∷ [])

@@ -10,3 +10,5 @@ pub mod Starts
 pub mod Conversations
 pub mod Talks
 pub mod Laws
+pub mod Links
+pub mod Resting

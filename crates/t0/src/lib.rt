@@ -4,6 +4,7 @@ mod card;
 mod carry;
 mod header;
 mod laws;
+mod link;
 mod settings;
 mod talk;
 mod terminal;

@@ -19,5 +19,5 @@ pub(crate) enum Spoke {
 }
 
 mod speak;
-pub(crate) use speak::talk;
 
+pub(crate) use speak::talk;

@@ -23,6 +23,7 @@ fn is_get_response(header: Header) -> bool
     header.ins == 0xc0 && header.p1 == 0 && header.p2 == 0
 }
 
+// Whether the headers are the same.
 fn is_same(asked: Header, header: Header) -> bool
     ensures { λ r. ⌜ r ≡ same-header asked header ⌝ }
 {

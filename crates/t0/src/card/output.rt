@@ -1,5 +1,4 @@
 ghost use mathlib.Core.Path.{_≡_};
-ghost use mathlib.Core.List.{[]};
 ghost use Rattle.t0.specs.Cards.{next-of, rest-of};
 ghost use Rattle.t0.specs.Procedures;
 ghost use Rattle.t0.specs.CardValues.{pending-of, given-rest, has-some};

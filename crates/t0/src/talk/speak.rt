@@ -6,7 +6,6 @@ ghost use Rattle.t0.specs.Conversations.{Joined, speaks, terminal-speaks, card
 ghost use Rattle.t0.specs.Talks.{Speaks, Talks, spoke-of, kept-in};
 ghost use Rattle.t0.specs.Terminals.{hears};
 ghost use Rattle.t0.specs.Laws.{most};
-
 use crate::card::Card;
 use crate::carry::carry;
 use crate::talk::Ending;

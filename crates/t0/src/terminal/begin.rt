@@ -30,7 +30,9 @@ fn as_p3(n: usize) -> u8
 
 impl Ready {
     // A terminal that may send a command.
-    pub fn new() -> Ready {
+    pub fn new() -> Ready
+        ensures { λ r. ⌜ r ≡ record {} ⌝ }
+    {
         Ready {}
     }
 

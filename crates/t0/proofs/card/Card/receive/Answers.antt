@@ -1,4 +1,4 @@
-use mathlib.Core.Path.{_≡_, refl, sym, _∙_}
+use mathlib.Core.Path.{refl, sym, _∙_}
 use Rattle.t0.specs.declared.card.Receiving.the-variants.{Header, Data}
 use Rattle.t0.proofs.CardReceiving.{ignores, goes-to}
 use Rattle.t0.proofs.card.Card.receive.Needs as need

@@ -1,4 +1,4 @@
-use mathlib.Core.Path.{_≡_, refl, ap}
+use mathlib.Core.Path.{refl, ap}
 use lib.ListN.{take}
 use Rattle.t0.specs.CardValues.{runs-on}
 use Rattle.t0.proofs.CardRunning.{Ran, ran-as, opened-size, data-short, alone, filled}

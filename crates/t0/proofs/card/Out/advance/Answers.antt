@@ -1,7 +1,4 @@
-use Prim.Native.Nat.{ℕ}
-use mathlib.Core.Path.{_≡_, sym, ap}
-use mathlib.Core.List.{List}
-use Rattle.std.specs.declared.option.Option.{Option}
+use mathlib.Core.Path.{sym, ap}
 use Rattle.t0.specs.Cards.{next-of, rest-of}
 use Rattle.t0.specs.CardValues.{characters-of}
 use Rattle.t0.proofs.CardGiving.{waiting}

@@ -10,8 +10,9 @@ returns-in-rest-carry g c =
     let j : Joined (app .State) = record { terminal = c .args .waiting; card = meant app (c .args .card .now); staged = c .args .staged .now; coming = g .L·Line .damage (c .args .line .now) } in
     record {
       spoke = card-lost app (c .args .card .now .settings) j (meant app (c .next .last .self)) (c .in-Some .byte) (g .L·Line .damage (c .carry .last .line)) (c .args .trace .now) (c .carry .last .trace)
-        (c .next .ensures .card) (meant app (c .args .card .now) .pending) (c .in-Some .ensures tt .gave) (c .in-rest-carry .ensures tt);
-      settings = c .next .ensures .settings }
+          (c .next .ensures .card) (meant app (c .args .card .now) .pending) (c .in-Some .ensures tt .gave) (c .in-rest-carry .ensures tt);
+      settings = c .next .ensures .settings;
+    }
 
 pub returns : need.returns
 returns g c =
@@ -19,6 +20,7 @@ returns g c =
     let j : Joined (app .State) = record { terminal = c .args .waiting; card = meant app (c .args .card .now); staged = c .args .staged .now; coming = g .L·Line .damage (c .args .line .now) } in
     record {
       spoke = card-heard app (c .args .card .now .settings) j (meant app (c .next .last .self)) (c .in-Some .byte) (g .L·Line .damage (c .carry .last .line)) (c .args .trace .now) (c .carry .last .trace)
-        (c .next .ensures .card) (meant app (c .args .card .now) .pending) (c .hear .result) (c .hear .last .staged) (c .in-Some-carry .arrived)
-        (c .in-Some .ensures tt .gave) (c .in-Some-carry .ensures tt) (c .hear .ensures .goes) (c .hear .ensures .bytes);
-      settings = c .next .ensures .settings }
+          (c .next .ensures .card) (meant app (c .args .card .now) .pending) (c .hear .result) (c .hear .last .staged) (c .in-Some-carry .arrived)
+          (c .in-Some .ensures tt .gave) (c .in-Some-carry .ensures tt) (c .hear .ensures .goes) (c .hear .ensures .bytes);
+      settings = c .next .ensures .settings;
+    }

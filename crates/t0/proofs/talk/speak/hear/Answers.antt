@@ -13,4 +13,5 @@ returns-else-place-lt256 c =
     let out : length (c .args .staged .now) ≤ c .in-Keep .place = search needs in
     record {
       goes = ap spoke-of (c .in-Keep .ensures tt);
-      bytes = sym (set-out (c .args .staged .now) (c .in-Keep .place) (c .args .byte) out) ∙ ap (λ (st : Step). kept-in st (c .args .byte) (c .args .staged .now)) (c .in-Keep .ensures tt) }
+      bytes = sym (set-out (c .args .staged .now) (c .in-Keep .place) (c .args .byte) out) ∙ ap (λ (st : Step). kept-in st (c .args .byte) (c .args .staged .now)) (c .in-Keep .ensures tt);
+    }

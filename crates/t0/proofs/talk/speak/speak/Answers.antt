@@ -9,5 +9,6 @@ returns-in-SendData g c =
     let j : Joined (app .State) = record { terminal = c .args .waiting; card = meant app (c .args .card .now); staged = c .args .staged .now; coming = g .L·Line .damage (c .args .line .now) } in
     record {
       spoke = data-sent app (c .args .card .now .settings) (c .args .body .now) j _ (c .data-byte-byte .result) (c .in-SendData .place) (c .terminal-speaks-in-SendData .result) _ _ _ _ _
-        (c .in-SendData .ensures tt) (c .data-byte-byte .ensures) (c .terminal-speaks-in-SendData .ensures .spoke);
-      settings = c .terminal-speaks-in-SendData .ensures .settings }
+          (c .in-SendData .ensures tt) (c .data-byte-byte .ensures) (c .terminal-speaks-in-SendData .ensures .spoke);
+      settings = c .terminal-speaks-in-SendData .ensures .settings;
+    }
