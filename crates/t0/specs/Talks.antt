@@ -13,6 +13,8 @@ use Rattle.t0.specs.declared.terminal.Step.the-variants.{Next, Keep}
 use Rattle.t0.specs.declared.terminal.Step.the-variants as step
 use Rattle.t0.specs.declared.talk.Ending.{Ending}
 use Rattle.t0.specs.declared.talk.Ending.the-variants.{Done, Held, Broken, Lost}
+use Rattle.t0.specs.declared.talk.Settled.{Settled}
+use Rattle.t0.specs.declared.talk.Settled.the-variants as outcome
 use Rattle.t0.specs.declared.talk.Spoke.{Spoke}
 use Rattle.t0.specs.declared.talk.Spoke.the-variants.{On, Off}
 
@@ -51,6 +53,21 @@ pub record Speaks {S : Type 0} (k : Spoken S) (r : Spoke) (c : Card S) (left : L
 -- A conversation went as `t` says.
 pub record Talks {S : Type 0} (t : Talked S) (r : Ending) (c : Card S) (left : List ℕ) (d : Damage) (before after : Record Traced) : Type 0 where
   pub end : end-of r ≡ t .end
+  pub card : c ≡ t .card
+  pub staged : left ≡ t .staged
+  pub line : d ≡ t .coming
+  pub trace : Grew before after (t .characters)
+
+-- How a command is settled by the end of its conversation: an answer that is still held breaks the protocol.
+abbrev pub settled : End → Settled
+settled (done count status) = outcome.Done count status
+settled (held token) = outcome.Broken
+settled broken = outcome.Broken
+settled lost = outcome.Lost
+
+-- A command's whole conversation went as `t` says.
+pub record Converses {S : Type 0} (t : Talked S) (r : Settled) (c : Card S) (left : List ℕ) (d : Damage) (before after : Record Traced) : Type 0 where
+  pub end : r ≡ settled (t .end)
   pub card : c ≡ t .card
   pub staged : left ≡ t .staged
   pub line : d ≡ t .coming

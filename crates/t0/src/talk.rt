@@ -18,6 +18,14 @@ pub(crate) enum Spoke {
     Off(Ending),
 }
 
+// How a command is settled: done, with a count of answer bytes and a status; with the protocol broken; or lost on the line.
+pub(crate) enum Settled {
+    Done(usize, Status),
+    Broken,
+    Lost,
+}
+
+mod converse;
 mod speak;
 
-pub(crate) use speak::talk;
+pub(crate) use converse::converse;

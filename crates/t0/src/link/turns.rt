@@ -4,8 +4,16 @@ ghost use Rattle.t0.specs.Links.{linked-by};
 use crate::card::Card;
 use crate::link::T0Link;
 use crate::settings::Settings;
+use crate::talk::Settled;
+use crate::talk::converse;
 use apdu::Application;
+use apdu::Refusal;
+use apdu::Status;
+use apdu::judge;
+use link::Link;
 use wire::Line;
+use wire::Record;
+use wire::Traced;
 
 impl<A: Application, L: Line> T0Link<A, L> {
     // A link with this card's settings, application and line.
@@ -17,5 +25,43 @@ impl<A: Application, L: Line> T0Link<A, L> {
             line,
             lost: false,
         }
+    }
+}
+
+pub impl<A: Application, L: Line> Link for T0Link<A, L> as T0LinkLink {
+    type App = A;
+
+    ghost meaning = { λ a l. linked-by (l .card .settings) (L·Line .damage (l .line)) (a .state (l .card .app)) (l .lost) };
+
+    fn send(
+        &mut self,
+        command: &[u8],
+        answer: &mut [u8],
+        trace: &mut Record<'_, Traced>,
+    ) -> Result<(usize, Status), Refusal> {
+        let command = judge(command, answer.len())?;
+        if self.lost {
+            return Err(Refusal::Lost);
+        }
+        // until the command is done
+        self.lost = true;
+        let mut staged = [0u8; 256];
+        match converse(&mut self.card, &mut self.line, command, &mut staged, trace) {
+            Settled::Done(count, status) => {
+                self.lost = false;
+                answer[0..count].copy_from_slice(&staged[0..count]);
+                Ok((count, status))
+            }
+            Settled::Broken => Err(Refusal::Protocol),
+            Settled::Lost => Err(Refusal::Lost),
+        }
+    }
+
+    fn reset(&mut self, trace: &mut Record<'_, Traced>) -> Result<(), Refusal> {
+        if self.lost {
+            return Err(Refusal::Lost);
+        }
+        self.card.reset();
+        Ok(())
     }
 }

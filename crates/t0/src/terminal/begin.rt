@@ -127,4 +127,15 @@ impl Token {
         let Holding {} = holding;
         Discarded::Done(Ready {}, Status::done())
     }
+
+    // Spends the token of a terminal that the card's fault has ended.
+    pub(crate) fn forfeit(self)
+        ensures { λ _. ⌜ Unit {0} ⌝ }
+    {
+        let Token {
+            cla: _,
+            ne: _,
+            held: _,
+        } = self;
+    }
 }
