@@ -15,7 +15,7 @@ use Rattle.t0.specs.declared.talk.Ending.{Ending}
 use Rattle.t0.specs.declared.talk.Ending.the-variants.{Broken}
 use Rattle.t0.specs.Cards.{Card}
 use Rattle.t0.specs.Conversations.{Joined, Spoken, After, on, off, Talked, ended, broken, before, speaks, talk}
-use Rattle.t0.specs.Laws.{most}
+use Rattle.t0.specs.Conversations.{most}
 use Rattle.t0.specs.Talks.{Speaks, Talks, after-of, end-of}
 
 before-before : {S : Type 0} (cs ds : List Traced) (t : Talked S) → before cs (before ds t) ≡ before (cs ++ ds) t

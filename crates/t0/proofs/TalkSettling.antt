@@ -23,7 +23,7 @@ use Rattle.t0.specs.declared.talk.Ending.{Ending}
 use Rattle.t0.specs.declared.talk.Settled.{Settled}
 use Rattle.t0.specs.Cards.{Card}
 use Rattle.t0.specs.Conversations.{Joined, Talked, End, done, held, talk, before, then-fetch, converse}
-use Rattle.t0.specs.Laws.{most}
+use Rattle.t0.specs.Conversations.{most}
 use Rattle.t0.specs.Starts.{fetched-by, discarded-by}
 use Rattle.t0.specs.Talks.{Talks, Converses, end-of, settled}
 use Rattle.t0.specs.Terminals.{fetches}

@@ -63,6 +63,10 @@ pub record Spoken (S : Type 0) : Type 0 where
   pub characters : List Traced
   pub after : After S
 
+-- More characters than any conversation has.
+abbrev pub most : ℕ
+most = 16384
+
 module _ {V : Type 0} (app : App V) (s : Settings) (body : List ℕ) where
   -- The terminal sends a character, and the card sees it if it arrives.
   abbrev pub terminal-speaks : Joined (app .State) → ℕ → Spoken (app .State)

@@ -9,6 +9,3 @@ pub mod Terminals
 pub mod Starts
 pub mod Conversations
 pub mod Talks
-pub mod Laws
-pub mod Links
-pub mod Resting

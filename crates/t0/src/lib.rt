@@ -1,20 +1,18 @@
 // The transport T=0: the card, driven by single characters by any terminal; the terminal, driven by single characters by any
-// card; and the link that joins the two over any line.
+// card; and the conversation of the two over any line.
 mod card;
 mod carry;
 mod header;
-mod laws;
-mod link;
 mod settings;
 mod talk;
 mod terminal;
 
 pub use card::Card;
 pub use header::Header;
-pub use laws::conversation_law;
-pub use laws::lost_exactly;
 pub use settings::Settings;
 pub use settings::Style;
+pub use talk::Settled;
+pub use talk::converse;
 pub use terminal::Begun;
 pub use terminal::Discarded;
 pub use terminal::Fetched;

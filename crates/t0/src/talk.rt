@@ -19,13 +19,13 @@ pub(crate) enum Spoke {
 }
 
 // How a command is settled: done, with a count of answer bytes and a status; with the protocol broken; or lost on the line.
-pub(crate) enum Settled {
+pub enum Settled {
     Done(usize, Status),
     Broken,
     Lost,
 }
 
-mod converse;
 mod speak;
+mod whole;
 
-pub(crate) use converse::converse;
+pub use whole::converse;

@@ -5,7 +5,7 @@ ghost use Rattle.t0.specs.CardValues.{meant};
 ghost use Rattle.t0.specs.Conversations.{Joined, speaks, terminal-speaks, card-speaks, talk};
 ghost use Rattle.t0.specs.Talks.{Speaks, Talks, spoke-of, kept-in};
 ghost use Rattle.t0.specs.Terminals.{hears};
-ghost use Rattle.t0.specs.Laws.{most};
+ghost use Rattle.t0.specs.Conversations.{most};
 use crate::card::Card;
 use crate::carry::carry;
 use crate::talk::Ending;

@@ -6,7 +6,7 @@ use Rattle.wire.specs.Records.{Grew}
 use Rattle.wire.specs.declared.traced.Traced.{Traced}
 use Rattle.t0.specs.CardValues.{meant}
 use Rattle.t0.specs.Conversations.{talk, before}
-use Rattle.t0.specs.Laws.{most}
+use Rattle.t0.specs.Conversations.{most}
 use Rattle.t0.proofs.talk.speak.talk.Given as given
 
 abbrev pub Inv-loop : given.InvT-loop

@@ -1,5 +1,0 @@
-use Rattle.t0.proofs.TalkLaw.{conversation}
-use Rattle.t0.proofs.laws.conversation_law.Needs as need
-
-pub returns : need.returns
-returns g c = conversation (g .A·Application .means)

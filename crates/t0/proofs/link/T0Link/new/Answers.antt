@@ -1,6 +1,0 @@
-use Rattle.t0.specs.Cards.{nothing}
-use Rattle.t0.proofs.Rests.{so-rests}
-use Rattle.t0.proofs.link.T0Link.new.Needs as need
-
-pub ghost-result : need.ghost-result
-ghost-result g c = (so-rests (g .A·Application .means) (c .new .result) (g .A·Application .means .state (c .args .app)) nothing (c .new .ensures .card) tt, tt)
