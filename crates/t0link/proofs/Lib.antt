@@ -17,3 +17,4 @@ pub mod TalkLaw
 pub mod Rests
 pub mod LinkSending
 pub mod LinkTurn
+pub mod LinkLaw

@@ -37,7 +37,7 @@ one d card b cs =
     (less (later (later d) 0) (tried (later (later (later d))) card b 1) (later (later d)) card b 2 cs refl
     (last (later (later (later d)) 0) (later (later (later (later d)))) (later (later (later d))) card b cs)))
 
-abbrev Found : Delivered → Type 0
+abbrev pub Found : Delivered → Type 0
 Found t = four-running 0 (t .characters) ≡ not (t .arrived)
 
 joined : (arrived : Bool) (cs : List Traced) (e : Damage) (u : Delivered)
@@ -46,7 +46,7 @@ joined : (arrived : Bool) (cs : List Traced) (e : Damage) (u : Delivered)
 joined true cs e u h k = h (u .characters) ∙ k
 joined false cs e u h k = ap (four-running 0) (sym (append-nil cs)) ∙ h []
 
-scanned : (d : Damage) (ws : List Word) → Found (deliver d ws)
+pub scanned : (d : Damage) (ws : List Word) → Found (deliver d ws)
 unfolding deliver
 scanned d [] = refl
 scanned d (w ∷ ws) =

@@ -5,3 +5,6 @@ mod link;
 
 pub use laws::conversation_law;
 pub use laws::lost_exactly;
+pub use laws::t0_law;
+pub use link::T0Link;
+pub use link::T0LinkLink;
