@@ -58,7 +58,7 @@ fn run(rt: &LibcRuntime) -> Result<(), AnyError> {
     let named = argument(rt)?;
     eprintln!(
         rt,
-        "cardtrace: no transport yet: no character lines, and damage has no effect"
+        "cardtrace: plays on the direct card: no character lines, and damage has no effect"
     )?;
     let mut output = BufWriter::new(rt.stdout());
     match named {

@@ -7,7 +7,16 @@ use apps::FilesApplication;
 use apps::Purse;
 use apps::PurseApplication;
 use link::DirectCard;
+use link::Link;
 use std::test::*;
+use t0::Settings;
+use t0::Style;
+use t0link::T0Link;
+use t0link::T0LinkLink;
+use wire::MarkedLine;
+use wire::MarkedLineLine;
+use wire::Record;
+use wire::Traced;
 
 // The status as a number, or the number of the refusal.
 fn outcome(r: Result<(usize, Status), Refusal>) -> u32 {
@@ -77,4 +86,50 @@ fn purse_is_debited_once_up_to_the_loss() -> Result<(), Fail> {
     check(card.reset().is_err())?;
     check_eq(outcome(card.send(b"\x80\x50\x00\x00\x04", &mut answer)), 5)?;
     check_eq(front(&answer), 500)
+}
+
+// A purse behind a T=0 link over a line with these positions damaged: credit 500, debit 500, debit 1.
+#[test]
+fn purse_over_t0_is_debited_once() -> Result<(), Fail> {
+    let Ok(settings) = Settings::new(2, Style::Bytewise) else {
+        return Err(Fail::new("two waits lie within the limits"));
+    };
+    let Ok(line) = MarkedLine::new(&[0, 7, 8, 9, 40, 60]) else {
+        return Err(Fail::new("the positions rise"));
+    };
+    let mut link = T0Link::new(settings, Purse::new(), line);
+    let mut answer = [0u8; 256];
+    let mut memory = [Traced {
+        by_card: false,
+        byte: 0,
+        damaged: false,
+    }; 400];
+    let mut trace = Record::new(&mut memory);
+    check_eq(
+        outcome(link.send(
+            b"\x80\x52\x00\x00\x04\x00\x00\x01\xF4\x00",
+            &mut answer,
+            &mut trace,
+        )),
+        0x9000,
+    )?;
+    check_eq(front(&answer), 500)?;
+    check_eq(
+        outcome(link.send(
+            b"\x80\x54\x00\x00\x04\x00\x00\x01\xF4\x00",
+            &mut answer,
+            &mut trace,
+        )),
+        0x9000,
+    )?;
+    check_eq(front(&answer), 0)?;
+    check_eq(
+        outcome(link.send(
+            b"\x80\x54\x00\x00\x04\x00\x00\x00\x01\x00",
+            &mut answer,
+            &mut trace,
+        )),
+        0x6985,
+    )?;
+    check(link.reset(&mut trace).is_ok())
 }

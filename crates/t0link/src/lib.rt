@@ -1,5 +1,4 @@
-// The link over T=0: the two ends joined by a line, behind the interface of links; and the laws of what crosses. (The link itself
-// is not handed out yet: that comes with its law.)
+// The link over T=0: the two ends joined by a line, behind the interface of links; and the laws of what crosses.
 mod laws;
 mod link;
 

@@ -9,6 +9,8 @@ mod traced;
 
 pub use line::Line;
 pub use marked::MarkedLine;
+pub use marked::MarkedLineLine;
 pub use periodic::PeriodicLine;
+pub use periodic::PeriodicLineLine;
 pub use record::Record;
 pub use traced::Traced;

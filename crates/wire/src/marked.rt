@@ -13,3 +13,5 @@ pub struct MarkedLine {
 }
 
 mod positions;
+
+pub use positions::MarkedLineLine;

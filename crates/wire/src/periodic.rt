@@ -11,3 +11,5 @@ pub struct PeriodicLine {
 }
 
 mod every;
+
+pub use every::PeriodicLineLine;
