@@ -1,5 +1,5 @@
 use Rattle.apdu.proofs.Same.{status_of_lawful}
 use Rattle.apdu.proofs.status.Status.new.Goals as goal
 
-pub returns-then-is-lawful : goal.returns-then-is-lawful
-returns-then-is-lawful c = status_of_lawful _ _ _
+pub returns-then-is_lawful : goal.returns-then-is_lawful
+returns-then-is_lawful c = status_of_lawful _ _ _
