@@ -1,4 +1,4 @@
-use Rattle.std.proofs.Common.{◌≡◌, ℕ, ◌+◌, ◌%◌, ◌<◌, ◌≤◌, Bool, true, false, eqb, sym, refl, ap, ◌∙◌, mod-eq_of_lt, arith, eq-eqb, ne_eqb}
+use Rattle.std.proofs.Common.{◌≡◌, ℕ, ◌+◌, ◌%◌, ◌<◌, true, false, eqb, sym, ap, ◌∙◌, mod-eq_of_lt, arith, eq-eqb, ne_eqb}
 use native.Mathlib.Nat.{mod_self, add-mod_left}
 use Rattle.wire.specs.PeriodicLines.{every}
 

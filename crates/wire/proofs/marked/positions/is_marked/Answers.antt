@@ -1,4 +1,4 @@
-use Rattle.std.proofs.Common.{◌≡◌, take, sym, ap, ◌∙◌, arith, take_all, rules}
+use Rattle.std.proofs.Common.{sym, ap, ◌∙◌, arith, take_all}
 use Rattle.wire.specs.MarkedLines.{is_marked}
 use Rattle.wire.proofs.Marks.{marked_more, marked_at}
 use Rattle.wire.proofs.marked.positions.is_marked.Goals as goal

@@ -1,4 +1,4 @@
-use Rattle.std.proofs.Common.{◌≡◌, sym, ap, ◌∙◌, arith, take_all}
+use Rattle.std.proofs.Common.{sym, ap, ◌∙◌, arith, take_all}
 use Rattle.wire.specs.MarkedLines.{rising}
 use Rattle.wire.proofs.Marks.{rising_more, rising_not}
 use Rattle.wire.proofs.marked.positions.is_rising.Goals as goal

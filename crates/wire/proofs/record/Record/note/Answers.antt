@@ -1,7 +1,7 @@
-use Rattle.std.proofs.Common.{◌≡◌, ℕ, ◌+◌, ◌<◌, ◌≤◌, true, false, ltb, sym, refl, ap, ◌∙◌, arith, le-ltb, lt-ltb}
+use Rattle.std.proofs.Common.{◌+◌, ◌<◌, sym, ap, ◌∙◌, arith, lt-ltb}
 use lib.Seq.{set_out}
 use Rattle.wire.specs.declared.record.Record.{Record}
-use Rattle.wire.proofs.Growing.{grew_one, grew_full}
+use Rattle.wire.proofs.Growing.{grew_one}
 use Rattle.wire.proofs.record.Record.note.Goals as goal
 use Rattle.wire.proofs.record.Record.note.Goals.{then-at-self, else-at-self}
 

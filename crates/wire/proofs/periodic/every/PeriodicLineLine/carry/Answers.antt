@@ -1,4 +1,4 @@
-use Rattle.std.proofs.Common.{◌+◌, ◌<◌, sym, ap, arith}
+use Rattle.std.proofs.Common.{sym, ap, arith}
 use Rattle.wire.specs.Lines.{carried}
 use Rattle.wire.proofs.Periods.{hit, hit_left, miss, miss_left}
 use Rattle.wire.proofs.periodic.every.PeriodicLineLine.carry.Goals as goal
