@@ -1,4 +1,4 @@
-use Rattle.std.proofs.Common.{◌≡◌, ℕ, ◌+◌, ◌-◌, ◌≤◌, min, Bool, false, cond, List, [], ◌++◌, length, take, drop, Ok, Option, sym, refl, ap, ◌∙◌, subst, append_assoc, arith, length-append, take-append-drop, length-take, take_at}
+use Rattle.std.proofs.Common.{◌≡◌, ℕ, ◌-◌, ◌≤◌, min, Bool, false, cond, List, [], ◌++◌, length, take, drop, Ok, Option, sym, refl, ap, ◌∙◌, subst, append_assoc, arith, length-append, take-append-drop, length-take, take_at}
 use native.Mathlib.Nat.{sub-zero}
 use Rattle.apdu.specs.Applications.{App, opened, does}
 use Rattle.apdu.specs.Commands.{Command}

@@ -2,6 +2,8 @@
 // Here stand what turns, entries and rows are; the interface `Link` behind which every transport stands, and what it means;
 // `run`, which takes a list of turns over any link and shares one data buffer out among them; the direct card, an application
 // with no link at all; and the laws that hold every link to it.
+#![tactic(auto)]
+
 mod answer;
 mod direct;
 mod direct_link;

@@ -42,7 +42,7 @@ fn take_turn<L: Link>(
     journal: &mut Record<'_, Row>,
     trace: &mut Record<'_, Traced>,
 ) -> usize
-    ensures { TurnRuns (linked L.App.Application.means (meaning L.App.Application.means link.old) (ordered commands.now turn) (drop free «data».old)) turn.program free «data».old (meaning L.App.Application.means link.new) «data».new result journal.old journal.new trace.old trace.new }
+    ensures { TurnRuns (linked L.App.Application.means (L.meaning L.App.Application.means link.old) (ordered commands.now turn) (drop free «data».old)) turn.program free «data».old (L.meaning L.App.Application.means link.new) «data».new result journal.old journal.new trace.old trace.new }
 {
     if turn.tag == 1 {
         let result = link.reset(trace);
@@ -68,7 +68,7 @@ pub fn run<L: Link>(
     journal: &mut Record<'_, Row>,
     trace: &mut Record<'_, Traced>,
 ) -> Result<usize, RunRefusal>
-    ensures { Runs L.App.Application.means (meaning L.App.Application.means link.old) (meaning L.App.Application.means link.new) turns.now commands.now «data».old «data».new result journal.old journal.new trace.old trace.new }
+    ensures { Runs L.App.Application.means (L.meaning L.App.Application.means link.old) (L.meaning L.App.Application.means link.new) turns.now commands.now «data».old «data».new result journal.old journal.new trace.old trace.new }
 {
     if journal.free() < turns.len() {
         return Err(RunRefusal::JournalFull);

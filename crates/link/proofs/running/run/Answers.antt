@@ -9,9 +9,9 @@ loop-turn-preserved g c =
     let app = g.L.App.Application.means in
     let none : Turn = record { tag = 0; program = 0; start = 0; length = 0 } in
     run_again app (g.L.Link.meaning app c.args.link.now) c.args.commands.now c.args.«data».now c.args.turns.now c.loop-turn.turn-index none
-    (g.L.Link.meaning app c.loop-turn.link) (g.L.Link.meaning app c.take-turn-free.new.link) c.loop-turn.«data» c.take-turn-free.new.«data» c.loop-turn.free c.take-turn-free.result
-    c.args.journal.now c.loop-turn.journal c.take-turn-free.new.journal c.args.trace.now c.loop-turn.trace c.take-turn-free.new.trace
-    c.loop-turn-test.true c.loop-turn.invariant c.take-turn-free.ensures
+    (g.L.Link.meaning app c.loop-turn.link) (g.L.Link.meaning app c.take_turn-free.new.link) c.loop-turn.«data» c.take_turn-free.new.«data» c.loop-turn.free c.take_turn-free.result
+    c.args.journal.now c.loop-turn.journal c.take_turn-free.new.journal c.args.trace.now c.loop-turn.trace c.take_turn-free.new.trace
+    c.loop-turn-test.true c.loop-turn.invariant c.take_turn-free.ensures
 
 pub returns : goal.returns
 returns g c =

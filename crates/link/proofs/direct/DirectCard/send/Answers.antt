@@ -7,6 +7,6 @@ use Rattle.link.proofs.direct.DirectCard.send.Goals as goal
 pub returns : goal.returns
 returns g c =
     let app = g.A.Application.means in
-    direct_sends app (meant app c.args.self.now) (parts c.in-ok-command.command) _ _ _ c.args.command.now c.args.answer.now _ _
-    c.in-ok-command.ensures (sym c.count-turn-lost.ensures.lost ∙ c.if-lost.false)
-    (ap app.state c.count-turn-lost.ensures.app) c.count-turn-lost.ensures.told c.run-command.ensures
+    direct_sends app (meant app c.args.self.now) (parts c.in_ok-command.command) _ _ _ c.args.command.now c.args.answer.now _ _
+    c.in_ok-command.ensures (sym c.count_turn-lost.ensures.lost ∙ c.if-lost.false)
+    (ap app.state c.count_turn-lost.ensures.app) c.count_turn-lost.ensures.told c.run_command.ensures

@@ -4,5 +4,5 @@ use Rattle.link.proofs.direct_link.DirectLinkLink.send.Goals as goal
 
 pub returns : goal.returns
 returns g c =
-    quiet_sends g.A.Application.means _ _ (parts c.in-ok-command.command) c.args.command.now c.args.answer.now _ _ c.args.-trace.now
-    c.in-ok-command.ensures c.run-command.ensures
+    quiet_sends g.A.Application.means _ _ (parts c.in_ok-command.command) c.args.command.now c.args.answer.now _ _ c.args._trace.now
+    c.in_ok-command.ensures c.run_command.ensures
