@@ -1,4 +1,4 @@
-use Rattle.std.proofs.Common.{◌≡◌, ℕ, ◌<◌, Bool, true, false, cond, eqb, ltb, List, [], ◌∷◌, ◌++◌, sym, refl, ap, ◌∙◌, subst, append-nil, arith, ltb-true, ne_eqb}
+use Rattle.std.proofs.Common.{◌≡◌, ℕ, Bool, true, false, cond, eqb, ltb, List, [], sym, refl, ap, ◌∙◌, subst, append-nil, arith, ltb-true, ne_eqb}
 use Rattle.apdu.specs.Applications.{App}
 use Rattle.apdu.specs.Statuses as statuses
 use Rattle.wire.specs.Lines.{Damage}
@@ -16,7 +16,7 @@ use Rattle.t0.specs.declared.terminal.Fetched.TheVariants.{Asking, Unwanted}
 use Rattle.t0.specs.declared.talk.Ending.{Ending}
 use Rattle.t0.specs.declared.talk.Settled.{Settled}
 use Rattle.t0.specs.Cards.{Card}
-use Rattle.t0.specs.Conversations.{Joined, Talked, End, done, held, talk, before, then_fetch, converse}
+use Rattle.t0.specs.Conversations.{Talked, done, held, talk, before, then_fetch, converse}
 use Rattle.t0.specs.Conversations.{most}
 use Rattle.t0.specs.Starts.{fetched_by, discarded_by}
 use Rattle.t0.specs.Talks.{Talks, Converses, end_of, settled}

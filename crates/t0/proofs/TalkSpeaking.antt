@@ -1,21 +1,19 @@
-use Rattle.std.proofs.Common.{◌≡◌, ℕ, Bool, true, false, cond, List, [], ◌∷◌, ◌++◌, get_or, Some, None, Option, sym, refl, ap, ◌∙◌, subst}
+use Rattle.std.proofs.Common.{◌≡◌, ℕ, Bool, true, false, cond, List, [], ◌∷◌, get_or, Some, None, sym, refl, ap, ◌∙◌, subst}
 use Rattle.apdu.specs.Applications.{App}
 use Rattle.wire.specs.Lines.{Damage}
-use Rattle.wire.specs.Records.{Grew}
 use Rattle.wire.specs.declared.record.Record.{Record}
 use Rattle.wire.specs.declared.traced.Traced.{Traced}
 use Rattle.t0.specs.declared.settings.Settings.{Settings}
-use Rattle.t0.specs.declared.terminal.Waiting.{Waiting}
 use Rattle.t0.specs.declared.terminal.Want.{Want}
 use Rattle.t0.specs.declared.terminal.Want.TheVariants.{SendData}
 use Rattle.t0.specs.declared.terminal.Step.{Step}
 use Rattle.t0.specs.declared.terminal.Step.TheVariants.{Next, Keep, Done, Held, Broken}
 use Rattle.t0.specs.declared.talk.Spoke.{Spoke}
-use Rattle.t0.specs.declared.talk.Spoke.TheVariants.{On, Off}
+use Rattle.t0.specs.declared.talk.Spoke.TheVariants.{Off}
 use Rattle.t0.specs.declared.talk.Ending.TheVariants as ending
 use Rattle.t0.specs.Carrying.{Carries}
 use Rattle.t0.specs.Cards.{Card, spoken, next_of, rest_of}
-use Rattle.t0.specs.Conversations.{Joined, Spoken, After, on, off, lost, broken, card_speaks, terminal_speaks, by_want, by_step}
+use Rattle.t0.specs.Conversations.{Joined, Spoken, off, lost, card_speaks, terminal_speaks, by_want, by_step}
 use Rattle.t0.specs.Delivery.{Delivered, tried}
 use Rattle.t0.specs.Talks.{Speaks, after_of, spoke_of, kept_in}
 use Rattle.t0.specs.Terminals.{hears}

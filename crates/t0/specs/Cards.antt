@@ -1,4 +1,4 @@
-use Rattle.std.specs.Prelude.{ℕ, ◌+◌, Bool, true, false, cond, ◌&&◌, List, [], ◌∷◌, ◌++◌, length, take, Some, None, Option, ◌==◌, nat_le}
+use Rattle.std.specs.Prelude.{ℕ, Bool, cond, ◌&&◌, List, [], ◌∷◌, ◌++◌, length, take, Some, None, Option, ◌==◌, nat_le}
 use Rattle.apdu.specs.Applications.{App, Outcome, Reply}
 use Rattle.apdu.specs.Commands.{wanted, reserved, inward}
 use Rattle.t0.specs.declared.header.Header.{Header}

@@ -1,4 +1,4 @@
-use Rattle.std.specs.Prelude.{◌≡◌, ℕ, Bool, cond, Some, None, Option}
+use Rattle.std.specs.Prelude.{◌≡◌, ℕ, cond, Some, None, Option}
 use Rattle.wire.specs.Lines.{Damage}
 use Rattle.wire.specs.Records.{Grew}
 use Rattle.wire.specs.declared.record.Record.{Record}

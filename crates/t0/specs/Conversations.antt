@@ -1,4 +1,4 @@
-use Rattle.std.specs.Prelude.{ℕ, zero, suc, Bool, true, false, cond, List, [], ◌∷◌, ◌++◌, Some, None, Option, ◌==◌, slice_index, slice_set}
+use Rattle.std.specs.Prelude.{ℕ, zero, suc, true, false, cond, List, [], ◌∷◌, ◌++◌, ◌==◌, slice_index, slice_set}
 use Rattle.apdu.specs.Applications.{App}
 use Rattle.apdu.specs.Statuses as statuses
 use Rattle.apdu.specs.declared.status.Status.{Status}
@@ -11,8 +11,7 @@ use Rattle.t0.specs.declared.terminal.Want.{Want}
 use Rattle.t0.specs.declared.terminal.Want.TheVariants.{Send, SendData, Receive}
 use Rattle.t0.specs.declared.terminal.Step.{Step}
 use Rattle.t0.specs.declared.terminal.Step.TheVariants.{Next, Keep, Done, Held, Broken}
-use Rattle.t0.specs.Dialogues.{Word}
-use Rattle.t0.specs.Delivery.{Delivered, sent_once}
+use Rattle.t0.specs.Delivery.{sent_once}
 use Rattle.t0.specs.Cards.{Card, received, spoken}
 use Rattle.t0.specs.Terminals.{wants, has_sent, hears, fetches}
 

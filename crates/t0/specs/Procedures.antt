@@ -1,4 +1,4 @@
-use Rattle.std.specs.Prelude.{ℕ, ◌-◌, Bool, true, false, cond, ◌&&◌, ◌||◌, List, [], ◌∷◌, ◌++◌, replicate, nat_le, nat_lt}
+use Rattle.std.specs.Prelude.{ℕ, ◌-◌, Bool, cond, ◌&&◌, ◌||◌, List, [], ◌∷◌, ◌++◌, replicate, nat_le, nat_lt}
 use Rattle.apdu.specs.declared.status.Status.{Status}
 use Rattle.t0.specs.declared.header.Header.{Header}
 use Rattle.t0.specs.declared.settings.Settings.{Settings}

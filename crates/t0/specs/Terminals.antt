@@ -1,4 +1,4 @@
-use Rattle.std.specs.Prelude.{ℕ, ◌+◌, ◌-◌, min, Bool, true, false, cond, ◌&&◌, ◌||◌, List, [], ◌∷◌, length, Some, None, Option, ◌==◌, nat_le, nat_lt}
+use Rattle.std.specs.Prelude.{ℕ, ◌+◌, ◌-◌, min, Bool, false, cond, ◌&&◌, length, Some, None, Option, ◌==◌, nat_le, nat_lt}
 use Rattle.apdu.specs.Commands.{Command, inward, wanted}
 use Rattle.apdu.specs.Statuses.{status_of}
 use Rattle.apdu.specs.declared.status.Status.{Status}
@@ -7,9 +7,7 @@ use Rattle.t0.specs.declared.terminal.Kind.{Kind}
 use Rattle.t0.specs.declared.terminal.Kind.TheVariants.{Inward, Outward, Repeated, Response}
 use Rattle.t0.specs.declared.terminal.Phase.{Phase}
 use Rattle.t0.specs.declared.terminal.Phase.TheVariants.{Heading, Procedure, Sending, Receiving, Closing}
-use Rattle.t0.specs.declared.terminal.Ready.{Ready}
 use Rattle.t0.specs.declared.terminal.Waiting.{Waiting}
-use Rattle.t0.specs.declared.terminal.Holding.{Holding}
 use Rattle.t0.specs.declared.terminal.Token.{Token}
 use Rattle.t0.specs.declared.terminal.Want.{Want}
 use Rattle.t0.specs.declared.terminal.Want.TheVariants.{Send, SendData, Receive}

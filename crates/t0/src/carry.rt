@@ -11,7 +11,7 @@ pub(crate) fn carry<L: Line>(
     byte: u8,
     trace: &mut Record<'_, Traced>,
 ) -> Option<u8>
-    ensures { Carries byte (tried (damage line.old) by_card byte 4) result (damage line.new) trace.old trace.new }
+    ensures { Carries byte (tried (L.damage line.old) by_card byte 4) result (L.damage line.new) trace.old trace.new }
 {
     for _ in 0..4u8 {
         let arrived = line.carry(byte);

@@ -1,5 +1,7 @@
 // The transport T=0: the card, driven by single characters by any terminal; the terminal, driven by single characters by any
 // card; and the conversation of the two over any line.
+#![tactic(auto)]
+
 mod card;
 mod carry;
 mod header;

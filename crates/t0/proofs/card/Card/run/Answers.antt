@@ -21,17 +21,15 @@ ran g c =
       status = c.run-count.ensures.status;
     })
 
-pub invariant-of-self : goal.invariant-of-self
-invariant-of-self g c = (
-  c.args.self.now.room,
-  (
-    opened_size (runs_on g.A.Application.means c.args.self.now c.args.header c.args.count).reply.answer c.args.self.now.answer c.run-count.new.buffer (ran g c).answer
-        (g.met.A.Application.short (g.A.Application.means.state c.args.self.now.app) c.args.header.cla c.args.header.ins c.args.header.p1 c.args.header.p2
-        (take c.args.count c.args.self.now.body) (data_short c.args.count c.args.self.now.body c.args.self.now.room))
-        c.args.self.now.space,
-    tt,
-  ),
-)
+pub invariant_of-self : goal.invariant_of-self
+invariant_of-self g c = record {
+  room = c.args.self.now.room;
+  space =
+      opened_size (runs_on g.A.Application.means c.args.self.now c.args.header c.args.count).reply.answer c.args.self.now.answer c.run-count.new.buffer (ran g c).answer
+      (g.met.A.Application.short (g.A.Application.means.state c.args.self.now.app) c.args.header.cla c.args.header.ins c.args.header.p1 c.args.header.p2
+      (take c.args.count c.args.self.now.body) (data_short c.args.count c.args.self.now.body c.args.self.now.room))
+      c.args.self.now.space;
+}
 
 pub returns-then-count-eq0 : goal.returns-then-count-eq0
 returns-then-count-eq0 g c =

@@ -9,8 +9,8 @@ returns-then-have-taking g c =
     record {
       card = last_data g.A.Application.means c.args.self.now.settings (meant g.A.Application.means c.args.self.now)
           c.args.taking.header c.args.taking.lc c.args.taking.have c.args.byte c.args.self.now.body
-          (meant g.A.Application.means c.run-inward.new.self) k c.if-have-taking.true c.run-inward.ensures.card;
-      settings = c.run-inward.ensures.settings;
+          (meant g.A.Application.means c.run_inward.new.self) k c.if-have-taking.true c.run_inward.ensures.card;
+      settings = c.run_inward.ensures.settings;
     }
 
 pub returns : goal.returns
@@ -20,6 +20,6 @@ returns g c =
     record {
       card = more_data g.A.Application.means c.args.self.now.settings (meant g.A.Application.means c.args.self.now)
           c.args.taking.header c.args.taking.lc c.args.taking.have c.args.byte c.args.self.now.body
-          (pending_of c.args.self.now.settings c.args.self.now.answer c.next-asking-self.result) k l c.next-asking-self.ensures;
+          (pending_of c.args.self.now.settings c.args.self.now.answer c.next_asking-self.result) k l c.next_asking-self.ensures;
       settings = refl {a = c.args.self.now.settings};
     }

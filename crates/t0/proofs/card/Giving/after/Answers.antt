@@ -5,7 +5,7 @@ use Rattle.t0.proofs.card.Giving.after.Goals as goal
 
 pub returns-then-self : goal.returns-then-self
 returns-then-self c =
-    ap (pending_of c.args.settings c.args.answer.now) c.after-waits.ensures
+    ap (pending_of c.args.settings c.args.answer.now) c.after_waits.ensures
     ∙ ap (λ (b : ℕ). replicate c.args.settings.waits 0x60 ++ (b ∷ (c.sw2.result ∷ []))) c.sw1.ensures
     ∙ ap (λ (b : ℕ). replicate c.args.settings.waits 0x60 ++ (c.args.self.status.sw1 ∷ (b ∷ []))) c.sw2.ensures
     ∙ gives_last c.args.settings c.args.answer.now c.args.self c.if-self.true
@@ -18,5 +18,5 @@ returns-in-Whole c =
 pub returns-in-Bytewise : goal.returns-in-Bytewise
 returns-in-Bytewise c =
     let k : c.args.self.last < length c.args.answer.now = omega arith in
-    ap (pending_of c.args.settings c.args.answer.now) c.after-waits-in-Bytewise.ensures
+    ap (pending_of c.args.settings c.args.answer.now) c.after_waits-in-Bytewise.ensures
     ∙ gives_bytewise c.args.settings c.args.answer.now c.args.self (sym c.in-Bytewise.ensures) c.if-self.false k

@@ -1,4 +1,4 @@
-use Rattle.std.proofs.Common.{◌≡◌, ◌≤◌, length, sym, ap, ◌∙◌, arith, rules}
+use Rattle.std.proofs.Common.{◌≤◌, length, sym, ap, ◌∙◌, rules}
 use lib.Seq.{set_out}
 use Rattle.t0.specs.declared.terminal.Step.{Step}
 use Rattle.t0.specs.Talks.{spoke_of, kept_in}

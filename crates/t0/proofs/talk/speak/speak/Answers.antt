@@ -8,7 +8,7 @@ returns-in-SendData g c =
     let app = g.A.Application.means in
     let j : Joined app.State = record { terminal = c.args.waiting; card = meant app c.args.card.now; staged = c.args.staged.now; coming = g.L.Line.damage c.args.line.now } in
     record {
-      spoke = data_sent app c.args.card.now.settings c.args.body.now j _ c.data-byte-byte.result c.in-SendData.place c.terminal-speaks-in-SendData.result _ _ _ _ _
-          c.in-SendData.ensures c.data-byte-byte.ensures c.terminal-speaks-in-SendData.ensures.spoke;
-      settings = c.terminal-speaks-in-SendData.ensures.settings;
+      spoke = data_sent app c.args.card.now.settings c.args.body.now j _ c.data_byte-byte.result c.in-SendData.place c.terminal_speaks-in-SendData.result _ _ _ _ _
+          c.in-SendData.ensures c.data_byte-byte.ensures c.terminal_speaks-in-SendData.ensures.spoke;
+      settings = c.terminal_speaks-in-SendData.ensures.settings;
     }

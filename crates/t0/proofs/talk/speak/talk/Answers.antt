@@ -1,4 +1,4 @@
-use Rattle.std.proofs.Common.{◌≡◌, ◌+◌, ◌-◌, ◌<◌, [], sym, refl, ap, ◌∙◌, arith, rules}
+use Rattle.std.proofs.Common.{[], refl, ◌∙◌, arith}
 use Rattle.wire.proofs.Growing.{grew_none}
 use Rattle.t0.specs.CardValues.{meant}
 use Rattle.t0.specs.Conversations.{Joined}

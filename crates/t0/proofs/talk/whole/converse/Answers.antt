@@ -1,12 +1,12 @@
-use Rattle.std.proofs.Common.{◌≡◌, ℕ, List, [], sym, refl, ◌∙◌, subst}
+use Rattle.std.proofs.Common.{ℕ, List, [], refl, ◌∙◌, subst}
 use Rattle.apdu.specs.Judging.{parts}
 use Rattle.t0.specs.CardValues.{meant}
-use Rattle.t0.specs.Conversations.{Talked, Joined, talk, held, then_fetch}
+use Rattle.t0.specs.Conversations.{Talked, talk, held, then_fetch}
 use Rattle.t0.specs.Talks.{Converses}
 use Rattle.t0.specs.declared.settings.Settings.{Settings}
 use Rattle.t0.specs.Conversations.{most}
 use Rattle.t0.specs.Terminals.{sends}
-use Rattle.t0.specs.declared.talk.Ending.TheVariants.{Done, Held, Broken, Lost}
+use Rattle.t0.specs.declared.talk.Ending.TheVariants.{Done, Broken, Lost}
 use Rattle.t0.proofs.TalkSettling.{not_held, was_held, from_start}
 use Rattle.t0.proofs.talk.whole.converse.Goals as goal
 
@@ -59,9 +59,9 @@ returns-in-Held g c =
     let k = c.in-Held.ensures.talked in
     record {
       conversed = from_start app s body (meant app c.args.card.now) c.args.staged.now d c.begin-start.result (sends (parts c.args.command)) _ _ _ _ _ _ c.begin-start.ensures
-          (was_held app s body t c.in-Held.token c.take-held.result (meant app c.take-held.new.card) (meant app c.talk.new.card) c.take-held.new.staged c.talk.new.staged (g.L.Line.damage c.take-held.new.line) (g.L.Line.damage c.talk.new.line) c.args.trace.now c.talk.new.trace c.take-held.new.trace
+          (was_held app s body t c.in-Held.token c.take_held.result (meant app c.take_held.new.card) (meant app c.talk.new.card) c.take_held.new.staged c.talk.new.staged (g.L.Line.damage c.take_held.new.line) (g.L.Line.damage c.talk.new.line) c.args.trace.now c.talk.new.trace c.take_held.new.trace
           k.end k.card k.staged k.line k.trace
-          (subst (λ (x : Settings). Converses (then_fetch app x body most (record { end = held c.in-Held.token; card = meant app c.talk.new.card; staged = c.talk.new.staged; coming = g.L.Line.damage c.talk.new.line; characters = [] }) (held c.in-Held.token)) c.take-held.result (meant app c.take-held.new.card) c.take-held.new.staged (g.L.Line.damage c.take-held.new.line) c.talk.new.trace c.take-held.new.trace)
-          c.talk.ensures.settings c.take-held.ensures.conversed));
-      settings = c.take-held.ensures.settings ∙ c.talk.ensures.settings;
+          (subst (λ (x : Settings). Converses (then_fetch app x body most (record { end = held c.in-Held.token; card = meant app c.talk.new.card; staged = c.talk.new.staged; coming = g.L.Line.damage c.talk.new.line; characters = [] }) (held c.in-Held.token)) c.take_held.result (meant app c.take_held.new.card) c.take_held.new.staged (g.L.Line.damage c.take_held.new.line) c.talk.new.trace c.take_held.new.trace)
+          c.talk.ensures.settings c.take_held.ensures.conversed));
+      settings = c.take_held.ensures.settings ∙ c.talk.ensures.settings;
     }

@@ -1,4 +1,4 @@
-use Rattle.std.proofs.Common.{◌≡◌, [], sym, refl, ◌∙◌}
+use Rattle.std.proofs.Common.{[], refl}
 use Rattle.t0.specs.CardValues.{meant}
 use Rattle.t0.specs.Conversations.{Talked, held}
 use Rattle.t0.proofs.TalkSettling.{asked, fetched_so}
