@@ -14,14 +14,14 @@ returns-then-text-ne0 c =
     let e = command_odd c.args.text.now c.if-text-ne0.true in
     record { count = ap (option_map length) e; bytes = ap (λ (o : Option (List ℕ)). opened_by o c.args.memory.now) e }
 
-pub overflow-mul-memory : goal.overflow-mul-memory
-overflow-mul-memory c =
-    let h = hex_small (get_or c.args.text.now (2 * c.loop-i.i) 0) (all_hex_at c.args.text.now (2 * c.loop-i.i) (sym c.if-not-is-all-hex.ensures) (omega arith)) in
+pub overflow_mul-memory : goal.overflow_mul-memory
+overflow_mul-memory c =
+    let h = hex_small (get_or c.args.text.now (2 * c.loop-i.i) 0) (all_hex_at c.args.text.now (2 * c.loop-i.i) (sym c.if-not-is_all_hex.ensures) (omega arith)) in
     search rules
 
-pub overflow-add-memory : goal.overflow-add-memory
-overflow-add-memory c =
-    let h = pair_small c.args.text.now c.loop-i.i c.value.result c.value-in-loop-i.result (sym c.if-not-is-all-hex.ensures) c.loop-i-test.true c.value.ensures c.value-in-loop-i.ensures in
+pub overflow_add-memory : goal.overflow_add-memory
+overflow_add-memory c =
+    let h = pair_small c.args.text.now c.loop-i.i c.value.result c.value-in-loop-i.result (sym c.if-not-is_all_hex.ensures) c.loop-i-test.true c.value.ensures c.value-in-loop-i.ensures in
     search rules
 
 pub loop-i-preserved : goal.loop-i-preserved
@@ -30,7 +30,7 @@ loop-i-preserved c =
 
 pub returns : goal.returns
 returns c =
-    let z = command_fine c.args.text.now c.if-text-gt600.false c.if-text-ne0.false (sym c.if-not-is-all-hex.ensures) in
+    let z = command_fine c.args.text.now c.if-text-gt600.false c.if-text-ne0.false (sym c.if-not-is_all_hex.ensures) in
     let n : length (pairs c.args.text.now) ≡ length c.args.text.now / 2 = length_pairs c.args.text.now (length c.args.text.now / 2) (omega arith) in
     record {
       count = ap Some (sym n) ∙ ap (option_map length) z;

@@ -8,5 +8,5 @@ pub returns : goal.returns
 returns c =
     let a = codes "damage," in
     let b = decimal c.args.position in
-    join_more b (join_more a c.new-text.ensures c.push-all.ensures) c.push-number.ensures
+    join_more b (join_more a c.new-text.ensures c.push_all.ensures) c.push_number.ensures
     ∙ gathered_fits (a ∷ (b ∷ [])) (printed_short (damage c.args.position) (search rules))

@@ -11,6 +11,6 @@ returns c =
     let b = decimal c.args.program in
     let d = codes "," in
     let h = hex c.args.command.now in
-    let e = join_more h (join_more d (join_more b (join_more a c.new-text.ensures c.push-all.ensures) c.push-number.ensures) c.push-all-2.ensures) c.push-hex.ensures ∙ gathered_fits (a ∷ (b ∷ (d ∷ (h ∷ [])))) (send_short c.args.program c.args.command.now (search rules) c.if-command-gt300.false) in
+    let e = join_more h (join_more d (join_more b (join_more a c.new-text.ensures c.push_all.ensures) c.push_number.ensures) c.push_all-2.ensures) c.push_hex.ensures ∙ gathered_fits (a ∷ (b ∷ (d ∷ (h ∷ [])))) (send_short c.args.program c.args.command.now (search rules) c.if-command-gt300.false) in
     let t : leb (length c.args.command.now) 300 ≡ true = grind (arith, nat_tests) in
     rw t (ap Some e)

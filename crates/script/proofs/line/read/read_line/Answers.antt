@@ -2,9 +2,9 @@ use Rattle.std.proofs.Common.{rules}
 use Rattle.script.specs.Lines.{line_of}
 use Rattle.script.proofs.line.read.read_line.Goals as goal
 
-pub returns-in-err-word : goal.returns-in-err-word
+pub returns-in_err-word : goal.returns-in_err-word
 unfolding line_of
-returns-in-err-word c = search rules
+returns-in_err-word c = search rules
 
 pub returns : goal.returns
 unfolding line_of

@@ -17,7 +17,7 @@ loop-b-init c = hex_none (text_of c.args.self.now) c.args.more.now
 
 pub loop-b-preserved : goal.loop-b-preserved
 loop-b-preserved c =
-    hex_more (text_of c.args.self.now) c.args.more.now c.args.self.now.size c.loop-b.b-index (text_of c.loop-b.self) (text_of c.push-all.new.self) (long c.args.self.now (search rules)) c.args.self.now.fits c.if-more-self.false c.loop-b-test.true (search rules) c.loop-b.invariant (rw (← c.hex-digit.ensures, ← c.hex-digit-in-loop-b.ensures) c.push-all.ensures)
+    hex_more (text_of c.args.self.now) c.args.more.now c.args.self.now.size c.loop-b.b-index (text_of c.loop-b.self) (text_of c.push_all.new.self) (long c.args.self.now (search rules)) c.args.self.now.fits c.if-more-self.false c.loop-b-test.true (search rules) c.loop-b.invariant (rw (← c.hex_digit.ensures, ← c.hex_digit-in-loop-b.ensures) c.push_all.ensures)
 
 pub returns : goal.returns
 returns c =

@@ -9,5 +9,5 @@ returns c =
     let b = decimal c.args.line in
     let d : List ℕ = 10 ∷ [] in
     let n = bad_length c.args.line (search rules) in
-    let e = join_more d (join_more b (join_more a c.new-text.ensures c.push-all.ensures) c.push-number.ensures) c.push-all-2.ensures ∙ gathered_fits (a ∷ (b ∷ (d ∷ []))) (omega (arith, n)) in
+    let e = join_more d (join_more b (join_more a c.new-text.ensures c.push_all.ensures) c.push_number.ensures) c.push_all-2.ensures ∙ gathered_fits (a ∷ (b ∷ (d ∷ []))) (omega (arith, n)) in
     record { says = e; short = n }

@@ -10,12 +10,12 @@ returns c =
     let line = character_line c.args.turn c.args.sender c.args.byte c.args.damaged in
     let a = codes "c," in
     let b = decimal c.args.turn in
-    let d = 44 ∷ (c.sender-letter.result ∷ (44 ∷ [])) in
+    let d = 44 ∷ (c.sender_letter.result ∷ (44 ∷ [])) in
     let f = hex (c.args.byte ∷ []) in
-    let g = 44 ∷ (c.damage-mark.result ∷ (10 ∷ [])) in
+    let g = 44 ∷ (c.damage_mark.result ∷ (10 ∷ [])) in
     let ps = a ∷ (b ∷ (d ∷ (f ∷ (g ∷ [])))) in
-    let w : whole ps ≡ line = rw (c.sender-letter.ensures, c.damage-mark.ensures) refl in
+    let w : whole ps ≡ line = rw (c.sender_letter.ensures, c.damage_mark.ensures) refl in
     let n = character_length c.args.turn c.args.sender c.args.byte c.args.damaged (search rules) in
     let k : length (whole ps) ≤ 609 = omega (arith, n, ap length w) in
-    let e = join_more g (join_more f (join_more d (join_more b (join_more a c.new-text.ensures c.push-all.ensures) c.push-number.ensures) c.push-all-2.ensures) c.push-hex.ensures) c.push-all-3.ensures ∙ gathered_fits ps k ∙ w in
+    let e = join_more g (join_more f (join_more d (join_more b (join_more a c.new-text.ensures c.push_all.ensures) c.push_number.ensures) c.push_all-2.ensures) c.push_hex.ensures) c.push_all-3.ensures ∙ gathered_fits ps k ∙ w in
     record { says = e; short = n }

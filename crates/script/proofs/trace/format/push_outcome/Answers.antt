@@ -12,8 +12,8 @@ returns-in-Refusal c =
     let b = decimal c.in-Refusal.n in
     let h : c.in-Refusal.n < 256 = search rules in
     let n = byte_length c.in-Refusal.n (omega arith) in
-    let e = join_more b (join_more a c.new-refusal.ensures c.push-all-in-Refusal.ensures) c.push-number.ensures ∙ gathered_fits (a ∷ (b ∷ [])) (omega arith) in
+    let e = join_more b (join_more a c.new-refusal.ensures c.push_all-in-Refusal.ensures) c.push_number.ensures ∙ gathered_fits (a ∷ (b ∷ [])) (omega arith) in
     record {
-      joins = c.add-to.ensures ∙ ap (joined (text_of c.args.text.now)) (e ∙ ap outcome_text (sym c.in-Refusal.is));
+      joins = c.add_to.ensures ∙ ap (joined (text_of c.args.text.now)) (e ∙ ap outcome_text (sym c.in-Refusal.is));
       short = rw c.in-Refusal.is (omega arith);
     }

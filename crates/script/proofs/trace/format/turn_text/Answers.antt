@@ -17,8 +17,8 @@ returns c =
     let g = outcome_text c.args.outcome in
     let h = hex bytes in
     let i : List ℕ = 10 ∷ [] in
-    let n = turn_length c.args.turn c.args.program c.args.outcome bytes (search rules) (search rules) c.push-outcome.ensures.short c.if-data-gt256.false in
-    let e = join_more i (join_more h (join_more d (join_more g (join_more d (join_more f (join_more d (join_more b (join_more a c.new-text.ensures c.push-all.ensures) c.push-number.ensures) c.push-all-2.ensures) c.push-number-2.ensures) c.push-all-3.ensures) c.push-outcome.ensures.joins) c.push-all-4.ensures) c.push-hex.ensures) c.push-all-5.ensures
+    let n = turn_length c.args.turn c.args.program c.args.outcome bytes (search rules) (search rules) c.push_outcome.ensures.short c.if-data-gt256.false in
+    let e = join_more i (join_more h (join_more d (join_more g (join_more d (join_more f (join_more d (join_more b (join_more a c.new-text.ensures c.push_all.ensures) c.push_number.ensures) c.push_all-2.ensures) c.push_number-2.ensures) c.push_all-3.ensures) c.push_outcome.ensures.joins) c.push_all-4.ensures) c.push_hex.ensures) c.push_all-5.ensures
     ∙ gathered_fits (a ∷ (b ∷ (d ∷ (f ∷ (d ∷ (g ∷ (d ∷ (h ∷ (i ∷ []))))))))) (omega (arith, n)) in
     let t : leb (length bytes) 256 ≡ true = grind (arith, nat_tests) in
     record { says = rw t (ap Some e); short = λ _. n }
