@@ -1,15 +1,15 @@
-use Rattle.std.proofs.Common.{◌≡◌, ℕ, Bool, true, false, cond, not, eqb, ltb, List, [], ◌∷◌, ◌++◌, length, take, Some, None, Option, sym, refl, ap, ◌∙◌, subst}
+use Rattle.std.proofs.Common.{◌≡◌, ℕ, Bool, true, false, not, eqb, ltb, List, [], length, take, Some, None, Option, sym, refl, ◌∙◌, subst}
 use Rattle.std.proofs.lemmas.Bool.{cond_both}
 use Rattle.apdu.specs.Applications.{App, does, opened}
 use Rattle.apdu.specs.Commands.{Command, command_of, reserved, inward, agrees}
 use Rattle.apdu.specs.Judging.{Judged, refused, passes, checked, judged}
 use Rattle.wire.specs.Lines.{Damage}
 use Rattle.wire.specs.declared.traced.Traced.{Traced}
-use Rattle.link.specs.Exchange.{Exchanged, loses, first_where}
+use Rattle.link.specs.Exchange.{Exchanged, loses}
 use Rattle.link.specs.Direct.{given}
 use Rattle.link.specs.Meaning as meaning
 use Rattle.link.specs.Meaning.{Asked, command, reset, Linked, Fate, carried, before, after, by_fate, sent_as, played, linked}
-use Rattle.link.specs.Turns.{Order, send, restart, Call, Went, Did, Gave, gives, restarted, denied, gaves}
+use Rattle.link.specs.Turns.{Order, send, restart, Call, Went, Did, Gave, restarted, gaves}
 use Rattle.link.proofs.Agreeing.{direct_law}
 use Rattle.link.proofs.Exchanges.{exchange, first_lost}
 use Rattle.link.proofs.Orders.{Chain, none, next, chain, every_order}
@@ -17,7 +17,7 @@ use Rattle.t0.specs.declared.settings.Settings.{Settings}
 use Rattle.t0.specs.Delivery.{deliver, four_running}
 use Rattle.t0.specs.Dialogues.{whole}
 use Rattle.t0link.specs.Links.{said, fate_of, crosses, leaves, linked_by}
-use Rattle.t0link.specs.LinkLaws.{CrossesT0, six, NeverSix, OverT0, T0Law}
+use Rattle.t0link.specs.LinkLaws.{CrossesT0, six, NeverSix, T0Law}
 use Rattle.t0link.proofs.TalkLost.{scanned}
 
 loses_by : (all opening : Bool) → loses (fate_of all opening) ≡ not all

@@ -1,8 +1,8 @@
-use Rattle.std.proofs.Common.{◌≡◌, ℕ, ◌-◌, ◌<◌, ◌≤◌, Bool, true, false, cond, List, [], ◌∷◌, ◌++◌, length, take, drop, Some, None, Ok, Err, Option, sym, refl, ap, ◌∙◌, subst, arith, take_at}
+use Rattle.std.proofs.Common.{◌≡◌, ℕ, ◌-◌, Bool, true, false, List, [], ◌++◌, length, take, drop, Ok, Err, Option, sym, refl, ap, ◌∙◌, subst, take_at}
 use native.Mathlib.Nat.{sub-zero}
-use Rattle.apdu.specs.Applications.{App, Outcome, Reply, does, opened}
-use Rattle.apdu.specs.Commands.{Command, command_of}
-use Rattle.apdu.specs.Judging.{Judged, passes, judged}
+use Rattle.apdu.specs.Applications.{App, Outcome, does, opened}
+use Rattle.apdu.specs.Commands.{Command}
+use Rattle.apdu.specs.Judging.{passes, judged}
 use Rattle.apdu.specs.declared.refusal.Refusal.TheVariants.{Lost}
 use Rattle.apdu.specs.declared.status.Status.{Status}
 use Rattle.apdu.proofs.Judging.{passes_read}
@@ -12,13 +12,13 @@ use Rattle.wire.specs.declared.record.Record.{Record}
 use Rattle.wire.proofs.Growing.{grew_none}
 use Rattle.wire.specs.declared.traced.Traced.{Traced}
 use Rattle.link.specs.Direct.{given}
-use Rattle.link.specs.Meaning.{Asked, command, Linked, Fate, carried, before, after, sent, sent_as, was_reset}
-use Rattle.link.specs.Results.{Sends, LinkSends, LinkResets}
-use Rattle.link.specs.Turns.{Did, Gave, gives, denied}
+use Rattle.link.specs.Meaning.{Asked, command, Linked, carried, before, after, sent, sent_as, was_reset}
+use Rattle.link.specs.Results.{LinkSends, LinkResets}
+use Rattle.link.specs.Turns.{Did, gives, denied}
 use Rattle.t0.specs.declared.settings.Settings.{Settings}
 use Rattle.t0.specs.Delivery.{Delivered, deliver}
 use Rattle.t0.specs.Dialogues.{Dialogue, dialogue, whole}
-use Rattle.t0link.specs.Links.{said, said_by, fate_of, linked_by}
+use Rattle.t0link.specs.Links.{said_by, fate_of, linked_by}
 
 module _ {V : Type 0} (app : App V) (s : Settings) (d : Damage) (x : app.State) (bytes buffer : List ℕ) (c : Command) (pass : passes c ≡ judged bytes (length buffer)) where
   abbrev o : Outcome app.State

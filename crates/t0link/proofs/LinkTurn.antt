@@ -1,5 +1,5 @@
-use Rattle.std.proofs.Common.{◌≡◌, ℕ, ◌-◌, ◌<◌, ◌≤◌, Bool, true, false, cond, List, [], ◌∷◌, ◌++◌, length, take, drop, replicate, Ok, Err, sym, refl, ap, ◌∙◌, subst, arith, length-take}
-use Rattle.apdu.specs.Applications.{App, Outcome, Reply, ShortAnswers, LawfulAnswers, does, opened}
+use Rattle.std.proofs.Common.{◌≡◌, ℕ, ◌-◌, ◌≤◌, Bool, true, false, List, ◌++◌, length, take, drop, Ok, Err, sym, refl, ap, ◌∙◌, subst, arith, length-take}
+use Rattle.apdu.specs.Applications.{App, Outcome, ShortAnswers, LawfulAnswers, does}
 use Rattle.apdu.specs.Commands.{Command}
 use Rattle.apdu.specs.Judging.{passes, judged}
 use Rattle.apdu.specs.declared.refusal.Refusal.TheVariants as refusal
@@ -9,18 +9,17 @@ use Rattle.wire.specs.Lines.{Damage}
 use Rattle.wire.specs.Records.{Grew}
 use Rattle.wire.specs.declared.record.Record.{Record}
 use Rattle.wire.specs.declared.traced.Traced.{Traced}
-use Rattle.link.specs.Meaning.{Linked, sent}
+use Rattle.link.specs.Meaning.{sent}
 use Rattle.link.specs.Results.{LinkSends}
 use Rattle.t0.specs.declared.settings.Settings.{Settings}
 use Rattle.t0.specs.declared.card.Card as code
-use Rattle.t0.specs.declared.talk.Settled.{Settled}
 use Rattle.t0.specs.declared.talk.Settled.TheVariants.{Done, Broken, Lost}
 use Rattle.t0.specs.CardValues.{meant, held_of}
-use Rattle.t0.specs.Cards.{Card, Held, at_rest}
-use Rattle.t0.specs.Conversations.{Joined, Talked, End, done, lost, converse}
+use Rattle.t0.specs.Cards.{Card}
+use Rattle.t0.specs.Conversations.{Talked, converse}
 use Rattle.t0.specs.Delivery.{Delivered, deliver}
-use Rattle.t0.specs.Dialogues.{Dialogue, dialogue, whole}
-use Rattle.t0link.specs.Laws.{Between, ComesTo}
+use Rattle.t0.specs.Dialogues.{dialogue, whole}
+use Rattle.t0link.specs.Laws.{ComesTo}
 use Rattle.t0.specs.Conversations.{most}
 use Rattle.t0link.specs.Links.{linked_by}
 use Rattle.t0link.specs.Resting.{resting}
@@ -29,7 +28,7 @@ use Rattle.t0.specs.Terminals.{sends}
 use Rattle.t0link.proofs.LinkSending.{done_so, lost_so, staged_out}
 use Rattle.t0link.proofs.Rests.{rests_so, so_rests}
 use Rattle.t0link.proofs.TalkLaw.{conversation}
-use Rattle.t0link.proofs.TalkPassing.{Passing, passing}
+use Rattle.t0link.proofs.TalkPassing.{passing}
 
 module _ {V : Type 0} (app : App V) (short : ShortAnswers app) (lawful : LawfulAnswers app) (card : code.Card V) (d : Damage) (bytes buffer zeros : List ℕ) (c : Command)
     (pass : passes c ≡ judged bytes (length buffer)) (rests : resting card ≡ true) (full : length zeros ≡ 256) where

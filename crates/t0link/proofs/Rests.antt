@@ -1,4 +1,4 @@
-use Rattle.std.proofs.Common.{◌≡◌, ℕ, zero, suc, ◌+◌, ◌<◌, Bool, true, false, cond, not, ◌||◌, ltb, List, [], ◌∷◌, ◌++◌, length, take, replicate, sym, refl, ap, ◌∙◌, subst, arith, lt-ltb}
+use Rattle.std.proofs.Common.{◌≡◌, ℕ, zero, suc, Bool, true, false, not, ◌||◌, ltb, List, [], ◌++◌, replicate, sym, refl, ap, ◌∙◌, subst, arith, lt-ltb}
 use Rattle.apdu.specs.Applications.{App}
 use Rattle.t0.specs.declared.settings.Settings.{Settings}
 use Rattle.t0.specs.declared.card.Card.{Card}
@@ -6,7 +6,6 @@ use Rattle.t0.specs.declared.card.Kept.{Kept}
 use Rattle.t0.specs.declared.card.Kept.TheVariants as kept
 use Rattle.t0.specs.declared.card.Receiving.{Receiving}
 use Rattle.t0.specs.declared.card.Receiving.TheVariants as receiving
-use Rattle.t0.specs.declared.card.Out.{Out}
 use Rattle.t0.specs.declared.card.Then.{Then}
 use Rattle.t0.specs.declared.card.Then.TheVariants.{Nothing, Ask, Announce, Give, Close, End}
 use Rattle.t0.specs.CardValues.{meant, held_of, stage_of, pending_of, characters_of, has_some, is_some}

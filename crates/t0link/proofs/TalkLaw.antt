@@ -8,12 +8,12 @@ use Rattle.t0.specs.declared.settings.Settings.{Settings}
 use Rattle.t0.specs.declared.terminal.Phase.TheVariants.{Procedure}
 use Rattle.t0.specs.declared.terminal.Waiting.{Waiting}
 use Rattle.t0.specs.Procedures.{header, as_p3, get_response, moves_out, closes, says_status}
-use Rattle.t0.specs.Dialogues.{Word, Dialogue, dialogue, header_of, from_terminal, from_card, moved_in, after_inward, after_outward}
+use Rattle.t0.specs.Dialogues.{Word, Dialogue, header_of, from_terminal, from_card, moved_in, after_inward, after_outward}
 use Rattle.t0.specs.Delivery.{Delivered, deliver}
 use Rattle.t0.specs.Cards.{Card, Held, nothing, by61, at_rest, says, inward_ran}
 use Rattle.t0.specs.Terminals.{fetches, heading_for}
 use Rattle.t0.specs.declared.terminal.Kind.TheVariants.{Inward}
-use Rattle.t0.specs.Conversations.{Joined, Talked, done, held, lost, talk, converse}
+use Rattle.t0.specs.Conversations.{Joined, Talked, done, held, talk, converse}
 use Rattle.t0link.specs.Laws.{Between, ComesTo, ConversationLaw}
 use Rattle.t0.specs.Conversations.{most}
 use Rattle.t0link.proofs.TalkSteps.{Pair, Place, goes, stops, Says, join, talked}

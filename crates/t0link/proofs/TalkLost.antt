@@ -1,5 +1,5 @@
 use Rattle.std.proofs.Common.{◌≡◌, ℕ, ◌+◌, Bool, true, false, cond, not, eqb, List, [], ◌∷◌, ◌++◌, sym, refl, ap, ◌∙◌, append-nil}
-use Rattle.std.proofs.lemmas.Bool.{not_true}
+use Rattle.std.proofs.lemmas.Bool.{not-true}
 use Rattle.wire.specs.Lines.{Damage, later}
 use Rattle.wire.specs.declared.traced.Traced.{Traced}
 use Rattle.t0.specs.Dialogues.{Word}
@@ -51,4 +51,4 @@ scanned d (w ∷ ws) =
 
 pub lost_exactly : LostExactly
 lost_exactly d ws =
-    (λ e. scanned d ws ∙ ap not e, λ e. not_true (deliver d ws).arrived (sym (scanned d ws) ∙ e))
+    (λ e. scanned d ws ∙ ap not e, λ e. not-true (deliver d ws).arrived (sym (scanned d ws) ∙ e))

@@ -1,6 +1,5 @@
 use Rattle.std.proofs.Common.{◌≡◌, Bool, true, false, cond, List, [], ◌∷◌, ◌++◌, sym, refl, ap, ◌∙◌, subst, append_assoc}
 use Rattle.std.proofs.lemmas.Bool.{cond-true, cond-false}
-use Rattle.apdu.specs.Statuses as statuses
 use Rattle.wire.specs.Lines.{Damage}
 use Rattle.wire.specs.declared.traced.Traced.{Traced}
 use Rattle.t0.specs.Dialogues.{Word}

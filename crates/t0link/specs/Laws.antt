@@ -1,12 +1,12 @@
-use Rattle.std.specs.Prelude.{◌≡◌, ℕ, ◌≤◌, Bool, true, false, ◌⊎◌, List, [], ◌++◌, length, take}
-use Rattle.apdu.specs.Applications.{App, Reply, Outcome, CarriesData, does, opened}
+use Rattle.std.specs.Prelude.{◌≡◌, ℕ, ◌≤◌, true, false, List, length, take}
+use Rattle.apdu.specs.Applications.{App, Outcome, CarriesData, does, opened}
 use Rattle.apdu.specs.Commands.{Command}
 use Rattle.apdu.specs.Judging.{judged, passes}
 use Rattle.wire.specs.Lines.{Damage}
 use Rattle.t0.specs.declared.settings.Settings.{Settings}
-use Rattle.t0.specs.Dialogues.{Dialogue, dialogue, whole}
+use Rattle.t0.specs.Dialogues.{dialogue, whole}
 use Rattle.t0.specs.Delivery.{Delivered, deliver}
-use Rattle.t0.specs.Cards.{Card, Held, nothing, by61, by6C, at_rest}
+use Rattle.t0.specs.Cards.{Held, nothing, by61, by6C, at_rest}
 use Rattle.t0.specs.Terminals.{sends}
 use Rattle.t0.specs.Conversations.{Joined, Talked, End, done, lost, converse, most}
 

@@ -1,10 +1,10 @@
-use Rattle.std.specs.Prelude.{◌≡◌, ℕ, Bool, true, false, List, [], ◌∷◌, ◌==◌}
+use Rattle.std.specs.Prelude.{◌≡◌, Bool, false, List, [], ◌∷◌, ◌==◌}
 use Rattle.apdu.specs.Applications.{App}
 use Rattle.wire.specs.Lines.{Damage}
 use Rattle.wire.specs.declared.traced.Traced.{Traced}
 use Rattle.link.specs.Exchange.{Exchanged, first_where}
 use Rattle.link.specs.Laws.{AsDirect, loss}
-use Rattle.link.specs.Meaning.{Asked, reset, Linked, played}
+use Rattle.link.specs.Meaning.{Asked, reset, played}
 use Rattle.link.specs.Turns.{Call, Gave, gives, restarted, denied, gaves}
 use Rattle.t0.specs.declared.settings.Settings.{Settings}
 use Rattle.t0.specs.Delivery.{deliver, four_running}

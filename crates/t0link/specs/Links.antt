@@ -1,11 +1,11 @@
-use Rattle.std.specs.Prelude.{ℕ, Bool, true, false, cond, List, [], ◌∷◌, ◌++◌, Some, None, Option}
+use Rattle.std.specs.Prelude.{Bool, cond, [], Some, None, Option}
 use Rattle.apdu.specs.Applications.{Reply}
 use Rattle.apdu.specs.Commands.{Command, command_of}
 use Rattle.wire.specs.Lines.{Damage}
 use Rattle.link.specs.Meaning.{Asked, command, reset, Crossing, Fate, carried, before, after, Linked, coming}
 use Rattle.t0.specs.declared.settings.Settings.{Settings}
 use Rattle.t0.specs.Dialogues.{Dialogue, dialogue, whole}
-use Rattle.t0.specs.Delivery.{Delivered, deliver}
+use Rattle.t0.specs.Delivery.{deliver}
 
 -- What is said for a command that was read; for one that is malformed nothing.
 abbrev pub said_by : Settings → Option Command → Reply → Dialogue

@@ -1,4 +1,4 @@
-use Rattle.std.specs.Prelude.{Bool, true, false, not, ◌&&◌, ◌||◌}
+use Rattle.std.specs.Prelude.{Bool, true, false, not, ◌||◌}
 use Rattle.t0.specs.declared.card.Card.{Card}
 use Rattle.t0.specs.declared.card.Kept.{Kept}
 use Rattle.t0.specs.declared.card.Kept.TheVariants as kept

@@ -1,4 +1,6 @@
 // The link over T=0: the two ends joined by a line, behind the interface of links; and the laws of what crosses.
+#![tactic(auto)]
+
 mod laws;
 mod link;
 

@@ -1,5 +1,4 @@
-use Rattle.std.proofs.Common.{◌≡◌, Bool, true, ◌||◌, sym, refl, ap, ◌∙◌}
-use Rattle.t0.specs.CardValues.{meant}
+use Rattle.std.proofs.Common.{Bool, ◌||◌, ap, ◌∙◌}
 use Rattle.t0.specs.Cards as cards
 use Rattle.t0.specs.Cards.{nothing}
 use Rattle.t0link.specs.Resting.{resting}
@@ -7,13 +6,12 @@ use Rattle.t0link.proofs.LinkSending.{reset_so}
 use Rattle.t0link.proofs.Rests.{so_rests}
 use Rattle.t0link.proofs.link.turns.T0LinkLink.reset.Goals as goal
 
-pub invariant-of-self : goal.invariant-of-self
-invariant-of-self g c =
-    let app = g.A.Application.means in (
-      ap (λ (b : Bool). b || resting c.reset.new.self) c.if-self.false
-          ∙ so_rests app c.reset.new.self (app.resets (app.state c.args.self.now.card.app)) nothing c.reset.ensures.card tt,
-      tt,
-    )
+pub invariant_of-self : goal.invariant_of-self
+invariant_of-self g c =
+    let app = g.A.Application.means in record {
+      rests = ap (λ (b : Bool). b || resting c.reset.new.self) c.if-self.false
+          ∙ so_rests app c.reset.new.self (app.resets (app.state c.args.self.now.card.app)) nothing c.reset.ensures.card tt;
+    }
 
 pub returns : goal.returns
 returns g c =
