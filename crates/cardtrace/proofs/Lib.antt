@@ -1,6 +1,2 @@
-pub mod Writing
-pub mod Holding
-pub mod Playing
-pub mod Openings
-pub mod Whole
+pub mod Turning
 pub mod Stepping

@@ -1,6 +1,5 @@
-use Rattle.std.proofs.Common.{◌≡◌, ℕ, Bool, true, false, cond, eqb, ltb, List, [], ◌∷◌, ◌++◌, length, IfOk, Some, None, Option, Result, sym, refl, ap, ◌∙◌, append_assoc, append-nil}
+use Rattle.std.proofs.Common.{◌≡◌, ℕ, Bool, true, false, cond, eqb, ltb, List, [], ◌∷◌, ◌++◌, length, Some, None, Option, sym, refl, ap, ◌∙◌, append_assoc, append-nil}
 use Rattle.std.proofs.lemmas.Bool.{cond_both}
-use Rattle.std.proofs.lemmas.Result.{IfOk-weaker}
 use Rattle.script.specs.Lines as lines
 use Rattle.script.specs.Readings.{Reading, Stepped, Out, more, line, bad, fresh, fed, finished, judged, grown, refused, line_ended, then_closed, closed, shown}
 use Rattle.script.specs.Scripts.{script, placed}
@@ -8,9 +7,8 @@ use Rattle.script.specs.Steps.{brought, noted, told_as}
 use Rattle.script.specs.declared.reader.Stage.{Stage}
 use Rattle.script.specs.declared.reader.Step.{Step}
 use Rattle.script.proofs.ScriptLaws as laws
-use Rattle.cardtrace.specs.Plays.{Playing, Printed, played, printed, start}
+use Rattle.cardtrace.specs.Traces.{Playing, Printed, played, printed, start, trace}
 use Rattle.cardtrace.specs.Sessions.{Tracing, Traced, step_played, by_step, takes, ends, prints, begins, TracesScripts}
-use Rattle.cardtrace.proofs.Whole.{whole}
 
 module _ (p : Playing) where
   -- The code's step, with the command that the reader holds, says what the reader told.
@@ -46,11 +44,6 @@ module _ (p : Playing) where
       ap (λ (q : Printed). record { reading = R; playing = q.after }) (joins s R st e f t)
       ∙ ap (λ (r : Reading). record { reading = r; playing = (played p s.out).after }) e
 
-  pub writes : {X Y : Type 0} (s : Stepped) (R : Reading) (st : Step) (r : Result X Y) (items old : List ℕ) → R ≡ s.after → st ≡ shown s.out → Tells s
-      → IfOk r (λ _. items ≡ old ++ (step_played p st R.command).text) → IfOk r (λ _. items ≡ old ++ (played p s.out).text)
-  writes s R st r items old e f t m =
-      IfOk-weaker r _ _ (λ x (h : items ≡ old ++ (step_played p st R.command).text). h ∙ ap (λ (q : Printed). old ++ q.text) (joins s R st e f t)) m
-
 -- What a step brings, put before what follows, is printed before it.
 printed_noted : (p : Playing) (o : Out) (os : List Out) → (played p o).text ++ printed (played p o).after os ≡ printed p (noted o os)
 printed_noted p more os = refl
@@ -65,4 +58,4 @@ prints_brought t (b ∷ bs) =
     ∙ printed_noted t.playing (fed t.reading b).out (brought (fed t.reading b).after bs)
 
 pub traces_scripts : TracesScripts
-traces_scripts text = prints_brought begins text ∙ ap (printed start) (laws.reads_scripts text) ∙ whole text
+traces_scripts text = prints_brought begins text ∙ ap (printed start) (laws.reads_scripts text)

@@ -1,5 +1,2 @@
-pub mod Cards
 pub mod Traces
 pub mod Sessions
-pub mod Plays
-pub mod Shared

@@ -1,9 +1,7 @@
-use Rattle.std.specs.Prelude.{◌≡◌, ℕ, Bool, true, false, List, [], ◌∷◌, ◌++◌, take}
-use Rattle.apps.specs.Files.{Shelf}
+use Rattle.std.specs.Prelude.{◌≡◌, ℕ, List, [], ◌∷◌, ◌++◌, Some, None, Ok, Err, Option, Result}
+use Rattle.apdu.specs.declared.refusal.SettingRefusal.{SettingRefusal}
 use Rattle.apps.specs.FileValues.{files_app}
-use Rattle.apps.specs.declared.files.Files.{Files}
-use Rattle.link.specs.Meaning.{Linked}
-use Rattle.link.specs.Meant.{meant_link}
+use Rattle.link.specs.Meant.{meant}
 use Rattle.link.specs.Turns.{send, restart}
 use Rattle.script.specs.Readers.{meaning}
 use Rattle.script.specs.Readings.{Reading, Stepped, fresh, fed, finished}
@@ -14,15 +12,8 @@ use Rattle.script.specs.declared.reader.Refusal.TheVariants.{BadLine}
 use Rattle.script.specs.declared.reader.Step.TheVariants.{More, Refused}
 use Rattle.script.specs.declared.reader.Step.TheVariants as step
 use Rattle.script.specs.declared.reader.Step.{Step}
-use Rattle.t0link.specs.Links.{linked_by}
-use Rattle.t0link.specs.declared.link.T0Link.{T0Link}
-use Rattle.wire.specs.MarkedLines.{at_marks, marks_of}
-use Rattle.wire.specs.declared.marked.MarkedLine.{MarkedLine}
 use Rattle.cardtrace.specs.declared.session.Session.{Session}
-use Rattle.cardtrace.specs.declared.session.Stand as code
-use Rattle.cardtrace.specs.declared.session.Stand.TheVariants.{Unlinked, Opening, OverT0, Direct}
-use Rattle.cardtrace.specs.Plays.{Stand, unlinked, opening, over, Playing, Printed, quietly, linked_up, marked, played, turn_played, start}
-use Rattle.cardtrace.specs.Traces.{trace}
+use Rattle.cardtrace.specs.Traces.{Playing, Printed, played, turn_played, start, trace}
 
 -- A session: a reading and a playing.
 pub record Tracing : Type 0 where
@@ -32,33 +23,19 @@ pub record Tracing : Type 0 where
 abbrev pub begins : Tracing
 begins = record { reading = fresh; playing = start }
 
--- The link that the code's T=0 link means.
-abbrev pub t0_link_of : T0Link Files MarkedLine → Linked Shelf
-t0_link_of l = linked_by l.card.settings (at_marks (marks_of l.line) l.line.at) (files_app.state l.card.app) l.lost
-
--- Where a value of the code stands.
-abbrev pub stand_of : code.Stand → Stand
-stand_of Unlinked = unlinked
-stand_of (Opening o) = opening o.settings (take o.count o.marks)
-stand_of (OverT0 l) = over (t0_link_of l)
-stand_of (Direct l) = over (meant_link files_app l)
-
--- Whether turns are played on the direct card.
-abbrev pub on_direct : code.Stand → Bool
-on_direct Unlinked = false
-on_direct (Opening o) = false
-on_direct (OverT0 l) = false
-on_direct (Direct l) = true
-
 -- The session that a value of the code is in.
 abbrev pub tracing : Session → Tracing
-tracing s = record { reading = meaning s.reader; playing = record { stand = stand_of s.stand; turn = s.turn } }
+tracing s = record { reading = meaning s.reader; playing = record { card = meant files_app s.card; turn = s.turn } }
+
+abbrev pub tracing_if : Result Session SettingRefusal → Option Tracing
+tracing_if (Ok s) = Some (tracing s)
+tracing_if (Err e) = None
 
 -- What the code makes of what its reader told: a send line's command lies with the reader.
 abbrev pub step_played : Playing → Step → List ℕ → Printed
-step_played p More command = quietly p
-step_played p (step.Line (Link s)) command = quietly (record { stand = linked_up p.stand s; turn = p.turn })
-step_played p (step.Line (Damage k)) command = quietly (record { stand = marked p.stand k; turn = p.turn })
+step_played p More command = record { after = p; text = [] }
+step_played p (step.Line (Link s)) command = record { after = p; text = [] }
+step_played p (step.Line (Damage k)) command = record { after = p; text = [] }
 step_played p (step.Line (Send u n)) command = turn_played p u (send command)
 step_played p (step.Line (Reset u)) command = turn_played p u restart
 step_played p (Refused (BadLine n)) command = record { after = p; text = bad_line n }

@@ -1,29 +1,22 @@
-use Rattle.std.specs.Prelude.{ℕ, Bool, true, false, cond, List, [], ◌∷◌, ◌++◌, replicate, Some, None, Option}
+use Rattle.std.specs.Prelude.{◌≡◌, ℕ, List, [], ◌∷◌, ◌++◌, replicate, Some, None, Option}
 use Rattle.apps.specs.Files.{Shelf}
 use Rattle.apps.specs.FileValues.{files_app}
-use Rattle.link.specs.Meaning.{Linked, linked}
+use Rattle.link.specs.Direct.{Direct, directly}
 use Rattle.link.specs.Turns.{Order, send, restart, Gave, gives, restarted, denied, Did}
 use Rattle.script.specs.Lines as lines
-use Rattle.script.specs.Scripts.{Script, following}
-use Rattle.script.specs.Traces.{character_line, turn_line, bad_line}
+use Rattle.script.specs.Readings.{Reading, Out, more, line, bad, fresh, fed, finished}
+use Rattle.script.specs.Scripts.{Script, script, following}
+use Rattle.script.specs.Steps.{told_as}
+use Rattle.script.specs.Traces.{turn_line, bad_line}
 use Rattle.script.specs.declared.trace.Outcome.TheVariants.{Status, Reset, Refusal}
-use Rattle.script.specs.declared.trace.Sender.{Sender}
-use Rattle.script.specs.declared.trace.Sender.TheVariants.{Terminal, Card}
-use Rattle.wire.specs.declared.traced.Traced.{Traced}
-use Rattle.cardtrace.specs.Cards.{link_said}
+
+-- The card of the program: one file, 2F01, which holds 41 42, and none is current; it is told of no loss.
+abbrev pub first_card : Direct Shelf
+first_card = record { state = record { files = record { id = 0x2F01; bytes = 0x41 ∷ (0x42 ∷ []) } ∷ []; current = None }; told = None }
 
 -- Each turn has 256 free bytes.
 abbrev pub free : List ℕ
 free = replicate 256 0
-
--- Who sent a character.
-abbrev pub sender_of : Bool → Sender
-sender_of by_card = cond by_card Card Terminal
-
--- The lines of the characters of a turn.
-abbrev pub character_lines : ℕ → List Traced → List ℕ
-character_lines turn [] = []
-character_lines turn (c ∷ cs) = character_line turn (sender_of c.by_card) c.byte c.damaged ++ character_lines turn cs
 
 -- The line of a turn, by what it gave.
 abbrev pub entry_line : ℕ → ℕ → Gave → List ℕ
@@ -31,42 +24,44 @@ entry_line turn program (gives bytes status) = turn_line turn program (Status st
 entry_line turn program restarted = turn_line turn program Reset []
 entry_line turn program (denied n) = turn_line turn program (Refusal n) []
 
--- What a turn prints: the lines of its characters, then its own.
-abbrev pub turn_lines : {M : Type 0} → ℕ → ℕ → Did M → List ℕ
-turn_lines turn program d = character_lines turn d.characters ++ entry_line turn program d.gave
+-- Where the playing of a script stands: the card, and the number of the coming turn.
+pub record Playing : Type 0 where
+  pub card : Direct Shelf
+  pub turn : ℕ
 
--- The positions that damage lines mark, in their order.
-abbrev pub marks_in : List lines.Line → List ℕ
-marks_in [] = []
-marks_in (lines.link s ∷ ls) = marks_in ls
-marks_in (lines.damage k ∷ ls) = k ∷ marks_in ls
-marks_in (lines.send u bytes ∷ ls) = marks_in ls
-marks_in (lines.reset u ∷ ls) = marks_in ls
+-- At the start: turns are numbered from 1.
+abbrev pub start : Playing
+start = record { card = first_card; turn = 1 }
 
--- What the turns among lines print, played one after the other over a link, of which the first has this number.
-abbrev pub turns_printed : Linked Shelf → ℕ → List lines.Line → List ℕ
-turns_printed l turn [] = []
-turns_printed l turn (lines.link s ∷ ls) = turns_printed l turn ls
-turns_printed l turn (lines.damage k ∷ ls) = turns_printed l turn ls
-turns_printed l turn (lines.send u bytes ∷ ls) =
-    let d = linked files_app l (send bytes) free in turn_lines turn u d ++ turns_printed d.after (following turn) ls
-turns_printed l turn (lines.reset u ∷ ls) =
-    let d = linked files_app l restart free in turn_lines turn u d ++ turns_printed d.after (following turn) ls
+-- What one step of the reading leaves, and what it prints.
+pub record Printed : Type 0 where
+  pub after : Playing
+  pub text : List ℕ
 
--- What good lines print: the link line, which is the first, and the damage lines say the link, and the turns are played over it,
--- numbered from 1.
-abbrev pub lines_printed : List lines.Line → List ℕ
-lines_printed [] = []
-lines_printed (lines.link s ∷ ls) = turns_printed (link_said s (marks_in ls)) 1 ls
-lines_printed (lines.damage k ∷ ls) = []
-lines_printed (lines.send u bytes ∷ ls) = []
-lines_printed (lines.reset u ∷ ls) = []
+-- A turn: the direct card takes it, and its entry is printed.
+abbrev pub turn_played : Playing → ℕ → Order → Printed
+turn_played p program o =
+    let d = directly files_app p.card o free in
+    record { after = record { card = d.after; turn = following p.turn }; text = entry_line p.turn program d.gave }
 
--- A bad line is printed with its number.
-abbrev pub bad_printed : Option ℕ → List ℕ
-bad_printed None = []
-bad_printed (Some n) = bad_line n
+-- A line of the script: link and damage lines print nothing.
+abbrev pub line_played : Playing → lines.Line → Printed
+line_played p (lines.link s) = record { after = p; text = [] }
+line_played p (lines.damage k) = record { after = p; text = [] }
+line_played p (lines.send u bytes) = turn_played p u (send bytes)
+line_played p (lines.reset u) = turn_played p u restart
 
--- The trace of a script: what its lines up to the first bad one print, then the bad one, if there is one.
+-- What the reader tells: a line is played, a bad line is printed with its number.
+abbrev pub played : Playing → Out → Printed
+played p more = record { after = p; text = [] }
+played p (line l) = line_played p l
+played p (bad n) = record { after = p; text = bad_line n }
+
+-- What is printed for all that a reader tells.
+abbrev pub printed : Playing → List Out → List ℕ
+printed p [] = []
+printed p (o ∷ os) = (played p o).text ++ printed (played p o).after os
+
+-- The trace of a script: for each of its lines in their order what the line prints, then its bad line, if it has one.
 abbrev pub trace : Script → List ℕ
-trace s = lines_printed s.read ++ bad_printed s.bad
+trace s = printed start (told_as s)

@@ -1,64 +1,43 @@
-// cardtrace plays a card script and prints each character and what each turn gave. It reads the script from standard input, or
-// from the file that its one argument names, and prints to standard output. What is printed is worked out by a session, byte by
-// byte; here are only the reading and the writing.
+// cardtrace plays a card script and prints what each turn gave. It reads the script from standard input, or from the file that
+// its one argument names, and prints to standard output. What is printed is worked out by a session, byte by byte; here are
+// only the reading and the writing.
 mod session;
 
 use anyhow::anyhow;
-use session::{Session, Trouble};
-use std::env;
+use script::trace::LINE_ROOM;
+use session::Session;
 use std::fs::File;
 use std::io::{BufWriter, Read, Write};
-
-// What a failed session says.
-fn failure(trouble: Trouble) -> anyhow::Error {
-    match trouble {
-        Trouble::Memory => "there is no memory for the text".into(),
-        Trouble::LongTrace =>
-            "more characters crossed in a turn than the trace has places for".into(),
-    }
-}
+use std::{env, io};
 
 // Feeds a session some bytes of the script, and writes what it gives.
-fn feed<W: Write>(
-    session: &mut Session,
-    bytes: &[u8],
-    text: &mut Vec<u8>,
-    output: &mut W,
-) -> anyhow::Result<()> {
+fn feed<W: Write>(session: &mut Session, bytes: &[u8], output: &mut W) -> io::Result<()> {
     for byte in bytes {
-        if let Err(trouble) = session.push(*byte, text) {
-            output.flush()?;
-            return Err(failure(trouble));
-        }
-        output.write_all(text)?;
-        text.clear();
+        let mut line = [0u8; LINE_ROOM];
+        let length = session.push(*byte, &mut line);
+        output.write_all(&line[0..length])?;
     }
     Ok(())
 }
 
-// Plays the script that an input holds; whether it was played on the direct card.
-fn play<R: Read, W: Write>(
-    rt: &HostRuntime,
-    input: &mut R,
-    output: &mut W,
-) -> anyhow::Result<bool> {
-    let mut session = Session::new();
-    let mut text = Vec::new(rt.alloc());
+// Plays the script that an input holds.
+fn play<R: Read, W: Write>(input: &mut R, output: &mut W) -> anyhow::Result<()> {
+    let Ok(mut session) = Session::new() else {
+        return Err(anyhow!("the card could not be made"));
+    };
     for _ in 0..u64::MAX {
         let mut chunk = [0u8; 4096];
         let count = input.read(&mut chunk)?;
         if count == 0 {
             break;
         }
-        feed(&mut session, &chunk[0..count], &mut text, output)?;
+        feed(&mut session, &chunk[0..count], output)?;
     }
-    if let Err(trouble) = session.finish(&mut text) {
-        output.flush()?;
-        return Err(failure(trouble));
-    }
-    output.write_all(&text)?;
+    let mut line = [0u8; LINE_ROOM];
+    let length = session.finish(&mut line);
+    output.write_all(&line[0..length])?;
     output.flush()?;
-    Ok(session.is_direct())
+    Ok(())
 }
 
 // The file that the one argument names, if there is one.
@@ -74,17 +53,14 @@ fn argument(rt: &HostRuntime) -> anyhow::Result<Option<String>> {
 
 fn run(rt: &HostRuntime) -> anyhow::Result<()> {
     let named = argument(rt)?;
+    eprintln!(rt;
+        "cardtrace: plays on the direct card: no character lines, and damage has no effect"
+    )?;
     let mut output = BufWriter::new(rt.alloc(), rt.stdout())?;
-    let direct = match named {
-        Some(path) => play(rt, &mut File::open(rt, path.as_str())?, &mut output)?,
-        None => play(rt, &mut rt.stdin(), &mut output)?,
-    };
-    if direct {
-        eprintln!(rt;
-            "cardtrace: T=1 is played on the direct card as yet: no character lines, and damage has no effect"
-        )?;
+    match named {
+        Some(path) => play(&mut File::open(rt, path.as_str())?, &mut output),
+        None => play(&mut rt.stdin(), &mut output),
     }
-    Ok(())
 }
 
 fn main(rt: HostRuntime) -> anyhow::Result<()> {

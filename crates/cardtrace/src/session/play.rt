@@ -1,153 +1,131 @@
-ghost use Rattle.std.specs.Prelude.{◌≡◌, ◌++◌, OnOk};
+ghost use Rattle.std.specs.Prelude.{◌≡◌, ◌≤◌, length, Some};
+ghost use Rattle.apps.specs.FileValues.{files_app};
+ghost use Rattle.link.specs.Meant.{meant};
 ghost use Rattle.link.specs.Turns.{send, restart};
+ghost use Rattle.script.specs.Hex.{opened};
 ghost use Rattle.script.specs.Scripts.{following};
-ghost use Rattle.cardtrace.specs.Plays.{turned, turn_played};
-ghost use Rattle.cardtrace.specs.Sessions.{stand_of, on_direct, tracing, begins, takes, ends, step_played, TracesScripts};
+ghost use Rattle.cardtrace.specs.Traces.{turn_played, entry_line};
+ghost use Rattle.cardtrace.specs.Sessions.{tracing, tracing_if, begins, takes, ends, step_played, TracesScripts};
 
-use crate::session::print::{play_reset, play_send, write_bad};
-use crate::session::{Session, Stand, Trouble};
-use apdu::Application;
-use link::Link;
+use crate::session::Session;
+use apdu::{Application, SettingRefusal};
+use apps::{Entry, Files};
+use link::DirectCard;
 use script::line::Line;
 use script::reader::{Reader, Refusal, Step};
-use std::mem::replace;
+use script::trace::{LINE_ROOM, Outcome, bad_line, turn_line};
 
-impl Stand {
-    // Plays a turn that sends a command, and adds what it prints to the text.
-    fn send(
-        self,
-        turn: u64,
-        program: u8,
-        command: &[u8],
-        out: &mut Vec<u8>,
-    ) -> (Stand, Result<(), Trouble>)
-        ensures after { stand_of result.0 ≡ (turned (stand_of self) turn program (send command.now)).after.stand }
-        ensures text { OnOk result.1 (out.new.items ≡ out.old.items ++ (turned (stand_of self) turn program (send command.now)).text) }
-    {
-        match self {
-            Stand::OverT0(mut link) => {
-                let result = play_send(&mut link, turn, program, command, out);
-                (Stand::OverT0(link), result)
-            }
-            Stand::Direct(mut link) => {
-                let result = play_send(&mut link, turn, program, command, out);
-                (Stand::Direct(link), result)
-            }
-            other => (other, Ok(())),
+// One turn that sends a command to the card; its line goes to the front of `out`, and its length is given.
+fn send_line(
+    card: &mut DirectCard<Files>,
+    turn: u64,
+    program: u8,
+    command: &[u8],
+    out: &mut [u8; LINE_ROOM],
+) -> usize
+    ensures card { meant files_app card.exit.now ≡ (turn_played (record { card = meant files_app card.entry.now; turn = turn }) program (send command.now)).after.card }
+    ensures count { result ≡ length (turn_played (record { card = meant files_app card.entry.now; turn = turn }) program (send command.now)).text }
+    ensures bytes { out.new ≡ opened (turn_played (record { card = meant files_app card.entry.now; turn = turn }) program (send command.now)).text out.old }
+{
+    let mut answer = [0u8; 256];
+    match card.send(command, &mut answer) {
+        Ok(p) => {
+            let count = p.0;
+            let outcome = Outcome::Status(p.1.sw1(), p.1.sw2());
+            turn_line(turn, program, outcome, &answer[0..count], out).unwrap_or(0)
         }
+        Err(e) => turn_line(turn, program, Outcome::Refusal(e.number()), b"", out).unwrap_or(0),
     }
+}
 
-    // Plays a turn that resets the card, likewise.
-    fn reset(self, turn: u64, program: u8, out: &mut Vec<u8>) -> (Stand, Result<(), Trouble>)
-        ensures after { stand_of result.0 ≡ (turned (stand_of self) turn program restart).after.stand }
-        ensures text { OnOk result.1 (out.new.items ≡ out.old.items ++ (turned (stand_of self) turn program restart).text) }
-    {
-        match self {
-            Stand::OverT0(mut link) => {
-                let result = play_reset(&mut link, turn, program, out);
-                (Stand::OverT0(link), result)
-            }
-            Stand::Direct(mut link) => {
-                let result = play_reset(&mut link, turn, program, out);
-                (Stand::Direct(link), result)
-            }
-            other => (other, Ok(())),
-        }
+// One turn that resets the card, likewise.
+fn reset_line(
+    card: &mut DirectCard<Files>,
+    turn: u64,
+    program: u8,
+    out: &mut [u8; LINE_ROOM],
+) -> usize
+    ensures card { meant files_app card.exit.now ≡ (turn_played (record { card = meant files_app card.entry.now; turn = turn }) program restart).after.card }
+    ensures count { result ≡ length (turn_played (record { card = meant files_app card.entry.now; turn = turn }) program restart).text }
+    ensures bytes { out.new ≡ opened (turn_played (record { card = meant files_app card.entry.now; turn = turn }) program restart).text out.old }
+{
+    match card.reset() {
+        Ok(_) => turn_line(turn, program, Outcome::Reset, b"", out).unwrap_or(0),
+        Err(e) => turn_line(turn, program, Outcome::Refusal(e.number()), b"", out).unwrap_or(0),
     }
 }
 
 impl Session {
-    // A session at the start of a script. A session that is fed a script byte by byte and then its end prints the script's trace.
-    pub fn new() -> Session
-        ensures made { tracing result ≡ begins }
+    // A session at the start of a script, with the one card of the program. A session that is fed a script byte by byte and
+    // then its end prints the script's trace.
+    pub fn new() -> Result<Session, SettingRefusal>
+        ensures made { tracing_if result ≡ Some begins }
         ensures whole { TracesScripts }
     {
-        Session {
+        let table = [Entry {
+            id: 0x2f01,
+            start: 0,
+            length: 2,
+        }];
+        let files = Files::new(&table, b"AB")?;
+        Ok(Session {
             reader: Reader::new(),
-            stand: Stand::Unlinked,
+            card: DirectCard::new(files, None),
             turn: 1,
-        }
+        })
     }
 
-    // Takes the next byte of the script, and adds what is to be printed to the text.
-    pub fn push(&mut self, byte: u8, out: &mut Vec<u8>) -> Result<(), Trouble>
+    // Takes the next byte of the script. What is to be printed goes to the front of `out`, and its length is given.
+    pub fn push(&mut self, byte: u8, out: &mut [u8; LINE_ROOM]) -> usize
         ensures after { tracing self.new ≡ (takes (tracing self.old) byte).after }
-        ensures text { OnOk result (out.new.items ≡ out.old.items ++ (takes (tracing self.old) byte).text) }
+        ensures count { result ≡ length (takes (tracing self.old) byte).text }
+        ensures fits { result ≤ 546 }
+        ensures bytes { out.new ≡ opened (takes (tracing self.old) byte).text out.old }
     {
         let step = self.reader.push(byte);
         self.play(step, out)
     }
 
-    // Takes the end of the script, likewise.
-    pub fn finish(&mut self, out: &mut Vec<u8>) -> Result<(), Trouble>
-        ensures after { tracing self.new ≡ (ends (tracing self.old)).after }
-        ensures text { OnOk result (out.new.items ≡ out.old.items ++ (ends (tracing self.old)).text) }
-    {
-        let step = self.reader.finish();
-        self.play(step, out)
-    }
-
-    // Whether the turns are played on the direct card.
-    pub fn is_direct(&self) -> bool
-        ensures { result ≡ on_direct self.now.stand }
-    {
-        matches!(self.stand, Stand::Direct(_))
-    }
-
     // Plays what the reader told.
-    fn play(&mut self, step: Step, out: &mut Vec<u8>) -> Result<(), Trouble>
+    fn play(&mut self, step: Step, out: &mut [u8; LINE_ROOM]) -> usize
         ensures after { tracing self.new ≡ record { reading = (tracing self.old).reading; playing = (step_played (tracing self.old).playing step (tracing self.old).reading.command).after } }
-        ensures text { OnOk result (out.new.items ≡ out.old.items ++ (step_played (tracing self.old).playing step (tracing self.old).reading.command).text) }
+        ensures count { result ≡ length (step_played (tracing self.old).playing step (tracing self.old).reading.command).text }
+        ensures bytes { out.new ≡ opened (step_played (tracing self.old).playing step (tracing self.old).reading.command).text out.old }
     {
         match step {
-            Step::More => Ok(()),
-            Step::Refused(Refusal::BadLine { line }) => write_bad(line, out),
-            Step::Line(Line::Link(settings)) => {
-                let stand = replace(&mut self.stand, Stand::Unlinked);
-                self.stand = stand.link(settings);
-                Ok(())
+            Step::More => 0,
+            Step::Refused(Refusal::BadLine { line }) => bad_line(line, out),
+            Step::Line(Line::Link(_)) => 0,
+            Step::Line(Line::Damage(_)) => 0,
+            Step::Line(Line::Send { program, length: _ }) => {
+                let turn = self.count_turn();
+                send_line(&mut self.card, turn, program, self.reader.command(), out)
             }
-            Step::Line(Line::Damage(position)) => {
-                let stand = replace(&mut self.stand, Stand::Unlinked);
-                self.stand = stand.mark(position);
-                Ok(())
+            Step::Line(Line::Reset { program }) => {
+                let turn = self.count_turn();
+                reset_line(&mut self.card, turn, program, out)
             }
-            Step::Line(Line::Send { program, length: _ }) => self.play_send(program, out),
-            Step::Line(Line::Reset { program }) => self.play_reset(program, out),
         }
     }
 
     // The number of this turn; the next has the following one.
     fn count_turn(&mut self) -> u64
         ensures turn { result ≡ self.old.turn }
-        ensures after { self.new ≡ record { reader = self.old.reader; stand = self.old.stand; turn = following self.old.turn } }
+        ensures after { self.new ≡ record { reader = self.old.reader; card = self.old.card; turn = following self.old.turn } }
     {
         let turn = self.turn;
         self.turn = turn.saturating_add(1);
         turn
     }
 
-    // A turn that sends the command of the last send line.
-    fn play_send(&mut self, program: u8, out: &mut Vec<u8>) -> Result<(), Trouble>
-        ensures after { tracing self.new ≡ record { reading = (tracing self.old).reading; playing = (turn_played (tracing self.old).playing program (send (tracing self.old).reading.command)).after } }
-        ensures text { OnOk result (out.new.items ≡ out.old.items ++ (turn_played (tracing self.old).playing program (send (tracing self.old).reading.command)).text) }
+    // Takes the end of the script, likewise.
+    pub fn finish(&mut self, out: &mut [u8; LINE_ROOM]) -> usize
+        ensures after { tracing self.new ≡ (ends (tracing self.old)).after }
+        ensures count { result ≡ length (ends (tracing self.old)).text }
+        ensures fits { result ≤ 546 }
+        ensures bytes { out.new ≡ opened (ends (tracing self.old)).text out.old }
     {
-        let turn = self.count_turn();
-        let stand = replace(&mut self.stand, Stand::Unlinked).open();
-        let (stand, result) = stand.send(turn, program, self.reader.command(), out);
-        self.stand = stand;
-        result
-    }
-
-    // A turn that resets the card.
-    fn play_reset(&mut self, program: u8, out: &mut Vec<u8>) -> Result<(), Trouble>
-        ensures after { tracing self.new ≡ record { reading = (tracing self.old).reading; playing = (turn_played (tracing self.old).playing program restart).after } }
-        ensures text { OnOk result (out.new.items ≡ out.old.items ++ (turn_played (tracing self.old).playing program restart).text) }
-    {
-        let turn = self.count_turn();
-        let stand = replace(&mut self.stand, Stand::Unlinked).open();
-        let (stand, result) = stand.reset(turn, program, out);
-        self.stand = stand;
-        result
+        let step = self.reader.finish();
+        self.play(step, out)
     }
 }

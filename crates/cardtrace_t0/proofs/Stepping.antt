@@ -1,0 +1,68 @@
+use Rattle.std.proofs.Common.{◌≡◌, ℕ, Bool, true, false, cond, eqb, ltb, List, [], ◌∷◌, ◌++◌, length, IfOk, Some, None, Option, Result, sym, refl, ap, ◌∙◌, append_assoc, append-nil}
+use Rattle.std.proofs.lemmas.Bool.{cond_both}
+use Rattle.std.proofs.lemmas.Result.{IfOk-weaker}
+use Rattle.script.specs.Lines as lines
+use Rattle.script.specs.Readings.{Reading, Stepped, Out, more, line, bad, fresh, fed, finished, judged, grown, refused, line_ended, then_closed, closed, shown}
+use Rattle.script.specs.Scripts.{script, placed}
+use Rattle.script.specs.Steps.{brought, noted, told_as}
+use Rattle.script.specs.declared.reader.Stage.{Stage}
+use Rattle.script.specs.declared.reader.Step.{Step}
+use Rattle.script.proofs.ScriptLaws as laws
+use Rattle.cardtrace_t0.specs.Plays.{Playing, Printed, played, printed, start}
+use Rattle.cardtrace_t0.specs.Sessions.{Tracing, Traced, step_played, by_step, takes, ends, prints, begins, TracesScripts}
+use Rattle.cardtrace_t0.proofs.Whole.{whole}
+
+module _ (p : Playing) where
+  -- The code's step, with the command that the reader holds, says what the reader told.
+  abbrev Tells : Stepped → Type 0
+  Tells s = step_played p (shown s.out) s.after.command ≡ played p s.out
+
+  tells_judged : (r : Reading) (o : Option (lines.Line × Stage)) → Tells (judged r o)
+  tells_judged r None = refl
+  tells_judged r (Some (lines.link s, stage)) = refl
+  tells_judged r (Some (lines.damage k, stage)) = refl
+  tells_judged r (Some (lines.send u bytes, stage)) = refl
+  tells_judged r (Some (lines.reset u, stage)) = refl
+
+  pub tells_fed : (r : Reading) (b : ℕ) → Tells (fed r b)
+  tells_fed r b =
+      cond_both r.over _ _ Tells (λ _. refl)
+      (λ _. cond_both (eqb b 10) _ _ Tells (λ _. tells_judged r (placed r.stage (lines.line_of r.part)))
+      (λ _. cond_both (ltb (length r.part) 609) _ _ Tells (λ _. refl) (λ _. refl)))
+
+  pub tells_finished : (r : Reading) → Tells (finished r)
+  tells_finished r =
+      cond_both r.over _ _ Tells (λ _. refl)
+      (λ _. cond_both (eqb (length r.part) 0) _ _ Tells (λ _. refl)
+      (λ _. tells_judged r (placed r.stage (lines.line_of r.part))))
+
+  pub joins : (s : Stepped) (R : Reading) (st : Step) → R ≡ s.after → st ≡ shown s.out → Tells s → step_played p st R.command ≡ played p s.out
+  joins s R st e f t =
+      ap (λ (r : Reading). step_played p st r.command) e ∙ ap (λ (x : Step). step_played p x s.after.command) f ∙ t
+
+  pub closes : (s : Stepped) (R : Reading) (st : Step) → R ≡ s.after → st ≡ shown s.out → Tells s
+      → ◌≡◌ {A = Tracing} (record { reading = R; playing = (step_played p st R.command).after }) (by_step p s).after
+  closes s R st e f t =
+      ap (λ (q : Printed). record { reading = R; playing = q.after }) (joins s R st e f t)
+      ∙ ap (λ (r : Reading). record { reading = r; playing = (played p s.out).after }) e
+
+  pub writes : {X Y : Type 0} (s : Stepped) (R : Reading) (st : Step) (r : Result X Y) (items old : List ℕ) → R ≡ s.after → st ≡ shown s.out → Tells s
+      → IfOk r (λ _. items ≡ old ++ (step_played p st R.command).text) → IfOk r (λ _. items ≡ old ++ (played p s.out).text)
+  writes s R st r items old e f t m =
+      IfOk-weaker r _ _ (λ x (h : items ≡ old ++ (step_played p st R.command).text). h ∙ ap (λ (q : Printed). old ++ q.text) (joins s R st e f t)) m
+
+-- What a step brings, put before what follows, is printed before it.
+printed_noted : (p : Playing) (o : Out) (os : List Out) → (played p o).text ++ printed (played p o).after os ≡ printed p (noted o os)
+printed_noted p more os = refl
+printed_noted p (line l) os = refl
+printed_noted p (bad n) os = refl
+
+-- All that a session prints is what is printed for all that its reading brings.
+prints_brought : (t : Tracing) (text : List ℕ) → prints t text ≡ printed t.playing (brought t.reading text)
+prints_brought t [] = sym (append-nil _) ∙ printed_noted t.playing (finished t.reading).out []
+prints_brought t (b ∷ bs) =
+    ap (λ (x : List ℕ). (takes t b).text ++ x) (prints_brought (takes t b).after bs)
+    ∙ printed_noted t.playing (fed t.reading b).out (brought (fed t.reading b).after bs)
+
+pub traces_scripts : TracesScripts
+traces_scripts text = prints_brought begins text ∙ ap (printed start) (laws.reads_scripts text) ∙ whole text

@@ -1,0 +1,5 @@
+pub mod Cards
+pub mod Traces
+pub mod Sessions
+pub mod Plays
+pub mod Shared
