@@ -3,7 +3,7 @@ use Rattle.std.proofs.lemmas.List.{take_all, take_more_set, length-append, lengt
 use Rattle.std.proofs.lemmas.Bool.{cond-true, cond-false, le-leb, lt-leb}
 use Rattle.std.proofs.lemmas.Int.{ints}
 use Rattle.apps.specs.Purse.{balance, within, joined, recorded, Sound}
-use Rattle.apps.specs.PurseBalances.{fits_within}
+use Rattle.apps.proofs.PurseBalances.{fits_within}
 
 -- The 32 places of a purse: what a movement does to them. `n` places are used, and the others are 0.
 

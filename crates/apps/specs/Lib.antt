@@ -6,5 +6,4 @@ pub mod FilePlaces
 pub mod FileSlots
 pub mod FileValues
 pub mod FileReplies
-pub mod PurseLaws
-pub mod PurseBalances
+pub mod PurseReplies

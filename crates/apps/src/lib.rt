@@ -1,4 +1,6 @@
 // Applications of the card: files and the purse, each in fixed memory behind the interface of apdu.
+#![tactic(auto)]
+
 mod files;
 mod purse;
 

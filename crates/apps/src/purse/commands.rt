@@ -3,7 +3,7 @@ ghost use Rattle.apdu.specs.Applications.{opened};
 ghost use Rattle.apdu.specs.Statuses.{done};
 ghost use Rattle.apps.specs.Purse.{four_bytes, amount_of, show_balance, move_by, credit, debit};
 ghost use Rattle.apps.specs.PurseState.{held, purse_means};
-ghost use Rattle.apps.specs.PurseLaws;
+ghost use Rattle.apps.specs.PurseReplies;
 
 use crate::purse::{LIMIT, Purse};
 use apdu::{Application, Status};
@@ -89,9 +89,9 @@ impl Purse {
 impl Application for Purse {
     ghost means = { purse_means };
 
-    ghost short = { λ ms cla ins p1 p2 body l. PurseLaws.short ms cla ins p1 p2 body };
+    ghost short = { λ ms cla ins p1 p2 body l. PurseReplies.short ms cla ins p1 p2 body };
 
-    ghost lawful = { λ ms cla ins p1 p2 body l. PurseLaws.lawful ms cla ins p1 p2 body };
+    ghost lawful = { λ ms cla ins p1 p2 body l. PurseReplies.lawful ms cla ins p1 p2 body };
 
     fn run(
         &mut self,

@@ -4,16 +4,16 @@ use Rattle.apps.specs.Files.{Shelf}
 use Rattle.apps.proofs.FileShelves.{current_below, update_missing, update_found, update_put}
 use Rattle.apps.proofs.files.Files.update.Goals as goal
 
-pub returns-in-default : goal.returns-in-default
-returns-in-default c =
-    let r = sym (update_missing c.args.self.now c.args.p1 c.args.p2 c.args.body.now (omega arith) c.in-default.ensures) in
+pub returns-in_default : goal.returns-in_default
+returns-in_default c =
+    let r = sym (update_missing c.args.self.now c.args.p1 c.args.p2 c.args.body.now (omega arith) c.in_default.ensures) in
     record {
       state = ap (λ (o : Outcome Shelf). o.state) r;
-      status = c.no-current-file.ensures ∙ ap (λ (o : Outcome Shelf). o.reply.status) r;
+      status = c.no_current_file.ensures ∙ ap (λ (o : Outcome Shelf). o.reply.status) r;
     }
 
-pub offset-bounds-slots-place : goal.offset-bounds-slots-place
-offset-bounds-slots-place c =
+pub offset_bounds-slots-place : goal.offset_bounds-slots-place
+offset_bounds-slots-place c =
     let h = current_below c.args.self.now c.in-Some.place c.in-Some.ensures in
     let b : c.in-Some.place < 8 = omega arith in
     search rules
@@ -26,10 +26,13 @@ listed c =
 pub bounds-slots-place : goal.bounds-slots-place
 bounds-slots-place c = omega (arith, current_below c.args.self.now c.in-Some.place c.in-Some.ensures)
 
-pub invariant-of-self : goal.invariant-of-self
-invariant-of-self c =
+pub invariant_of-self : goal.invariant_of-self
+invariant_of-self c =
     let h = current_below c.args.self.now c.in-Some.place c.in-Some.ensures in
-    (c.args.self.now.few, (drop-set-lt c.args.self.now.count c.args.self.now.slots c.in-Some.place c.update.new.self h ∙ c.args.self.now.rest, tt))
+    record {
+      few = c.args.self.now.few;
+      rest = drop-set-lt c.args.self.now.count c.args.self.now.slots c.in-Some.place c.update.new.self h ∙ c.args.self.now.rest;
+    }
 
 pub returns : goal.returns
 returns c =

@@ -9,8 +9,8 @@ returns-in-Ok c =
     let read = c.in-Ok.ensures in
     let e = moves_amount (held c.args.self.now) (λ n. neg_ℤ (pos n)) c.args.body.now c.in-Ok.amount _ read (minus c.args.body.now c.in-Ok.amount read) in
     record {
-      state = c.move-by.ensures.state ∙ ap (λ (o : Outcome (List ℤ)). o.state) e;
-      answer = c.move-by.ensures.answer ∙ ap (λ (o : Outcome (List ℤ)). opened o.reply.answer c.args.buffer.now) e;
-      count = c.move-by.ensures.count ∙ ap (λ (o : Outcome (List ℤ)). length o.reply.answer) e;
-      status = c.move-by.ensures.status ∙ ap (λ (o : Outcome (List ℤ)). o.reply.status) e;
+      state = c.move_by.ensures.state ∙ ap (λ (o : Outcome (List ℤ)). o.state) e;
+      answer = c.move_by.ensures.answer ∙ ap (λ (o : Outcome (List ℤ)). opened o.reply.answer c.args.buffer.now) e;
+      count = c.move_by.ensures.count ∙ ap (λ (o : Outcome (List ℤ)). length o.reply.answer) e;
+      status = c.move_by.ensures.status ∙ ap (λ (o : Outcome (List ℤ)). o.reply.status) e;
     }

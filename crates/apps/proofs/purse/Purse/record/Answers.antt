@@ -4,7 +4,7 @@ use Rattle.apdu.specs.Statuses.{conditions_not_met}
 use Rattle.apps.specs.Purse.{balance, within, Sound, recorded, move_by, accepts, refuses}
 use Rattle.apps.specs.PurseState.{held}
 use Rattle.apps.specs.declared.purse.Purse.{Purse}
-use Rattle.apps.specs.PurseBalances.{sound_recorded}
+use Rattle.apps.proofs.PurseBalances.{sound_recorded}
 use Rattle.apps.proofs.PursePlaces.{recorded_below, recorded_full, clear_below, clear_full, two_oldest_fit}
 use Rattle.apps.proofs.purse.Purse.record.Goals as goal
 use Rattle.apps.proofs.purse.Purse.record.Goals.{After-slid-self}
@@ -21,18 +21,17 @@ moved ms after m w e =
     subst (λ (b : Bool). after ≡ (cond b (accepts (recorded ms m)) (refuses ms conditions_not_met)).state) w e
 
 -- A place is free.
-pub invariant-of-self : goal.invariant-of-self
-invariant-of-self c =
+pub invariant_of-self : goal.invariant_of-self
+invariant_of-self c =
     let f = c.ranges.movement in
     let p : Purse = c.args.self.now in
     let w : true ≡ within (balance (held p) +ℤ c.args.movement) = allowed_at _ _ f c.if-not-allows.ensures in
-    simp to_z-of_z (
-      omega arith,
-      (
-        sound_held p c.args.movement _ w (recorded_below p.movements p.count c.args.movement (search rules) c.if-self-lt-PLACES.true),
-        (clear_below p.movements p.count c.args.movement p.clear, tt),
-      ),
-    )
+    simp to_z-of_z
+    (record {
+      few = omega arith;
+      sound = sound_held p c.args.movement _ w (recorded_below p.movements p.count c.args.movement (search rules) c.if-self-lt-PLACES.true);
+      clear = clear_below p.movements p.count c.args.movement p.clear;
+    })
 
 pub returns-then-self-lt-PLACES : goal.returns-then-self-lt-PLACES
 returns-then-self-lt-PLACES c =
@@ -47,8 +46,8 @@ returns-then-self-lt-PLACES c =
     })
 
 -- No place is free.
-pub overflow-add-oldest : goal.overflow-add-oldest
-overflow-add-oldest c =
+pub overflow_add-oldest : goal.overflow_add-oldest
+overflow_add-oldest c =
     let f : SFits w32 (get_or c.args.self.now.movements 0 (pos 0)) = search rules in
     let g : SFits w32 (get_or c.args.self.now.movements 1 (pos 0)) = search rules in
     let e : length c.args.self.now.movements ≡ 32 = search rules in
@@ -67,14 +66,12 @@ slid_recorded c =
 slid_allowed : (c : After-slid-self) → true ≡ within (balance (held c.args.self.now) +ℤ c.args.movement)
 slid_allowed c = allowed_at _ _ c.ranges.movement c.if-not-allows.ensures
 
-pub invariant-of-self-else-self-lt-PLACES : goal.invariant-of-self-else-self-lt-PLACES
-invariant-of-self-else-self-lt-PLACES c = (
-  c.args.self.now.few,
-  (
-    sound_held c.args.self.now c.args.movement _ (slid_allowed c) (slid_recorded c),
-    (clear_full c.slid-self.result c.args.self.now.count (search rules) (omega arith), tt),
-  ),
-)
+pub invariant_of-self-else-self-lt-PLACES : goal.invariant_of-self-else-self-lt-PLACES
+invariant_of-self-else-self-lt-PLACES c = record {
+  few = c.args.self.now.few;
+  sound = sound_held c.args.self.now c.args.movement _ (slid_allowed c) (slid_recorded c);
+  clear = clear_full c.slid-self.result c.args.self.now.count (search rules) (omega arith);
+}
 
 pub returns-else-self-lt-PLACES : goal.returns-else-self-lt-PLACES
 returns-else-self-lt-PLACES c =

@@ -9,5 +9,5 @@ returns c =
     let g = c.ranges.newest in
     simp to_z-of_z
     (ap (λ (ms : List ℤ). c.args.oldest ∷ ms)
-    (set_at c.copy-from-slice.new.self c.args.oldest [] c.args.newest 30 c.copy-from-slice.ensures.len
-    ∙ ap (λ (ms : List ℤ). ms ++ (c.args.newest ∷ [])) (c.copy-from-slice.ensures.after ∙ take_all 30 (drop 2 c.args.movements) (search (rules, length-drop)))))
+    (set_at c.copy_from_slice.new.self c.args.oldest [] c.args.newest 30 c.copy_from_slice.ensures.len
+    ∙ ap (λ (ms : List ℤ). ms ++ (c.args.newest ∷ [])) (c.copy_from_slice.ensures.after ∙ take_all 30 (drop 2 c.args.movements) (search (rules, length-drop)))))

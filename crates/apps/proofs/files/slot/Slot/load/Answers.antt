@@ -4,7 +4,10 @@ use Rattle.apps.proofs.files.slot.Slot.load.Goals as goal
 
 pub returns : goal.returns
 returns c =
-    load_fits c.args.contents.now c.args.entry.now c.copy-from-slice.new.self _ c.copy-from-slice.ensures.after (omega arith) (omega arith) (omega arith)
+    load_fits c.args.contents.now c.args.entry.now c.copy_from_slice.new.self _ c.copy_from_slice.ensures.after (omega arith) (omega arith) (omega arith)
 
-pub invariant-of-result : goal.invariant-of-result
-invariant-of-result c = (omega arith, (clear_load c.args.entry.now.length c.copy-from-slice.new.self (load_length c.args.contents.now c.args.entry.now _ c.copy-from-slice.ensures.after (omega arith)), tt))
+pub invariant_of-result : goal.invariant_of-result
+invariant_of-result c = record {
+  small = omega arith;
+  clear = clear_load c.args.entry.now.length c.copy_from_slice.new.self (load_length c.args.contents.now c.args.entry.now _ c.copy_from_slice.ensures.after (omega arith));
+}

@@ -9,7 +9,7 @@ returns c =
     let r = read_slot c.args.self.now.id c.args.self.now.size c.args.self.now.bytes c.args.offset c.args.body.now (omega arith) (omega arith) l (omega arith) in
     let n = length_part c.args.self.now.size c.args.offset c.args.self.now.bytes (omega arith) in
     record {
-      answer = opened_by _ _ _ c.args.buffer.now _ r c.copy-from-slice.ensures.after n;
+      answer = opened_by _ _ _ c.args.buffer.now _ r c.copy_from_slice.ensures.after n;
       count = counted_by _ _ _ r n;
       status = c.done.ensures ∙ ap (λ (x : Reply). x.status) (sym r);
     }

@@ -8,13 +8,16 @@ pub returns : goal.returns
 returns c =
     let l : length c.args.self.now.bytes ≡ 256 = search rules in
     let r = update_slot c.args.self.now.id c.args.self.now.size c.args.self.now.bytes c.args.offset c.args.body.now (omega arith) (omega arith) (omega arith) (omega arith) in
-    let w = written_slot c.args.self.now.id c.args.self.now.size c.args.self.now.bytes c.copy-from-slice.new.self c.args.offset c.args.body.now (omega arith) (omega arith) c.copy-from-slice.ensures.after in
+    let w = written_slot c.args.self.now.id c.args.self.now.size c.args.self.now.bytes c.copy_from_slice.new.self c.args.offset c.args.body.now (omega arith) (omega arith) c.copy_from_slice.ensures.after in
     record {
       state = w ∙ ap (λ (x : Outcome File). x.state) (sym r);
       status = c.done.ensures ∙ ap (λ (x : Outcome File). x.reply.status) (sym r);
     }
 
-pub invariant-of-self : goal.invariant-of-self
-invariant-of-self c =
+pub invariant_of-self : goal.invariant_of-self
+invariant_of-self c =
     let l : length c.args.self.now.bytes ≡ 256 = search rules in
-    (c.args.self.now.small, (clear_slot c.args.self.now.size c.args.self.now.bytes c.copy-from-slice.new.self c.args.offset c.args.body.now _ (omega arith) (omega arith) c.copy-from-slice.ensures.after c.args.self.now.clear, tt))
+    record {
+      small = c.args.self.now.small;
+      clear = clear_slot c.args.self.now.size c.args.self.now.bytes c.copy_from_slice.new.self c.args.offset c.args.body.now _ (omega arith) (omega arith) c.copy_from_slice.ensures.after c.args.self.now.clear;
+    }
