@@ -1,14 +1,14 @@
-use Rattle.std.proofs.Common.{◌≡◌, ℕ, Bool, true, false, cond, eqb, ltb, List, [], ◌∷◌, ◌++◌, length, Some, None, Option, sym, refl, ap, ◌∙◌, append_assoc, append-nil}
+use Rattle.std.proofs.Common.{◌≡◌, ℕ, eqb, ltb, List, [], ◌∷◌, ◌++◌, length, Some, None, Option, sym, refl, ap, ◌∙◌, append-nil}
 use Rattle.std.proofs.lemmas.Bool.{cond_both}
 use Rattle.script.specs.Lines as lines
-use Rattle.script.specs.Readings.{Reading, Stepped, Out, more, line, bad, fresh, fed, finished, judged, grown, refused, line_ended, then_closed, closed, shown}
-use Rattle.script.specs.Scripts.{script, placed}
-use Rattle.script.specs.Steps.{brought, noted, told_as}
+use Rattle.script.specs.Readings.{Reading, Stepped, Out, more, line, bad, fed, finished, judged, shown}
+use Rattle.script.specs.Scripts.{placed}
+use Rattle.script.specs.Steps.{brought, noted}
 use Rattle.script.specs.declared.reader.Stage.{Stage}
 use Rattle.script.specs.declared.reader.Step.{Step}
 use Rattle.script.proofs.ScriptLaws as laws
-use Rattle.cardtrace.specs.Traces.{Playing, Printed, played, printed, start, trace}
-use Rattle.cardtrace.specs.Sessions.{Tracing, Traced, step_played, by_step, takes, ends, prints, begins, TracesScripts}
+use Rattle.cardtrace.specs.Traces.{Playing, Printed, played, printed, start}
+use Rattle.cardtrace.specs.Sessions.{Tracing, step_played, by_step, takes, prints, begins, TracesScripts}
 
 module _ (p : Playing) where
   -- The code's step, with the command that the reader holds, says what the reader told.

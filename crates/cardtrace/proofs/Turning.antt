@@ -1,4 +1,4 @@
-use Rattle.std.proofs.Common.{◌≡◌, ℕ, ◌-◌, ◌≤◌, Bool, cond, List, length, take, drop, Some, None, Ok, Err, sym, refl, ap, ◌∙◌, subst, arith, length-append, length-take, le-leb}
+use Rattle.std.proofs.Common.{◌≡◌, ℕ, ◌-◌, ◌≤◌, Bool, cond, List, length, take, drop, Some, None, Ok, sym, ap, ◌∙◌, arith, length-append, length-take, le-leb}
 use native.Mathlib.Nat.{sub-zero}
 use Rattle.script.specs.Hex.{opened}
 use Rattle.apdu.specs.declared.status.Status.{Status}

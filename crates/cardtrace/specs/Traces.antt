@@ -1,11 +1,11 @@
-use Rattle.std.specs.Prelude.{◌≡◌, ℕ, List, [], ◌∷◌, ◌++◌, replicate, Some, None, Option}
+use Rattle.std.specs.Prelude.{ℕ, List, [], ◌∷◌, ◌++◌, replicate, None}
 use Rattle.apps.specs.Files.{Shelf}
 use Rattle.apps.specs.FileValues.{files_app}
 use Rattle.link.specs.Direct.{Direct, directly}
-use Rattle.link.specs.Turns.{Order, send, restart, Gave, gives, restarted, denied, Did}
+use Rattle.link.specs.Turns.{Order, send, restart, Gave, gives, restarted, denied}
 use Rattle.script.specs.Lines as lines
-use Rattle.script.specs.Readings.{Reading, Out, more, line, bad, fresh, fed, finished}
-use Rattle.script.specs.Scripts.{Script, script, following}
+use Rattle.script.specs.Readings.{Out, more, line, bad}
+use Rattle.script.specs.Scripts.{Script, following}
 use Rattle.script.specs.Steps.{told_as}
 use Rattle.script.specs.Traces.{turn_line, bad_line}
 use Rattle.script.specs.declared.trace.Outcome.TheVariants.{Status, Reset, Refusal}

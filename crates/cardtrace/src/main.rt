@@ -1,6 +1,8 @@
 // cardtrace plays a card script and prints what each turn gave. It reads the script from standard input, or from the file that
 // its one argument names, and prints to standard output. What is printed is worked out by a session, byte by byte; here are
 // only the reading and the writing.
+#![tactic(auto)]
+
 mod session;
 
 use anyhow::anyhow;

@@ -1,11 +1,11 @@
-use Rattle.std.proofs.Common.{◌≡◌, ℕ, ◌≤◌, List, length, sym, ap, ◌∙◌, arith}
+use Rattle.std.proofs.Common.{◌≡◌, ℕ, ◌≤◌, List, length, ap, ◌∙◌, arith}
 use Rattle.script.specs.Hex.{opened}
 use Rattle.script.specs.Readers.{meaning}
-use Rattle.script.specs.Readings.{Stepped, fed, finished}
+use Rattle.script.specs.Readings.{Stepped, finished}
 use Rattle.cardtrace.specs.Sessions.{tracing}
 use Rattle.cardtrace.specs.Traces.{Playing, Printed, played}
 use Rattle.cardtrace.proofs.Turning.{opened_within}
-use Rattle.cardtrace.proofs.Stepping.{joins, closes, tells_fed, tells_finished}
+use Rattle.cardtrace.proofs.Stepping.{joins, closes, tells_finished}
 use Rattle.cardtrace.proofs.session.Session.finish.Goals as goal
 
 pub returns : goal.returns
