@@ -1,10 +1,10 @@
-use Rattle.std.proofs.Common.{◌≡◌, ℕ, cond, List, [], ◌∷◌, length, ℤ, pos, negsuc, ◌+ℤ◌, Some, None, Option, sym, refl, ap, ◌∙◌}
+use Rattle.std.proofs.Common.{◌≡◌, ℕ, cond, List, [], ◌∷◌, length, ℤ, pos, negsuc, ◌+ℤ◌, Some, Option, refl, ap, ◌∙◌}
 use Rattle.apdu.specs.Applications.{Reply, Outcome}
 use Rattle.apdu.specs.Judging.{judged}
 use Rattle.apdu.specs.Statuses.{done, wrong_length, past_the_end, conditions_not_met}
 use Rattle.apps.specs.Files.{File, Shelf, named, files_run, update_in}
 use Rattle.apps.specs.Purse.{balance, purse_run, shown, recorded, within, accepts, refuses}
-use Rattle.apps.specs.PurseLaws.{balance_recorded}
+use Rattle.apps.proofs.PurseLaws.{balance_recorded}
 use Rattle.t0.specs.Delivery.{deliver}
 use Rattle.stack.specs.Examples.{WorkedExamples, debited, after_debit, five_hundred, one_cent}
 

@@ -1,14 +1,14 @@
 use Rattle.std.specs.Prelude.{◌≡◌, ℕ, Bool, true, false, List, [], ◌∷◌, ◌++◌, length, replicate, ℤ, pos, Some, None}
 use Rattle.std.proofs.Common.{lit≤}
 use Rattle.apdu.specs.Applications.{Reply}
-use Rattle.apdu.specs.Commands.{Command, command_of}
+use Rattle.apdu.specs.Commands.{command_of}
 use Rattle.apdu.specs.Statuses.{done, wrong_length, past_the_end, conditions_not_met}
 use Rattle.apdu.specs.declared.command.Case.TheVariants.{Two}
 use Rattle.apps.specs.Files.{File, Shelf, named, files_run}
 use Rattle.apps.specs.FileValues.{files_app}
 use Rattle.apps.specs.Purse.{balance, purse_run}
 use Rattle.link.specs.Meaning.{Linked, played}
-use Rattle.link.specs.Turns.{Call, alone, send, Went, gives, Entry, journal, whole_trace}
+use Rattle.link.specs.Turns.{alone, send, Went, gives, journal, whole_trace}
 use Rattle.t0.specs.declared.settings.Settings.{Settings}
 use Rattle.t0.specs.declared.settings.Style.TheVariants.{Whole}
 use Rattle.t0link.specs.Links.{linked_by}

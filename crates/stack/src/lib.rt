@@ -1,5 +1,7 @@
 // The stack as a whole: the worked examples of commands and applications, proved from the definitions as one list, and tests
 // of applications behind the direct card.
+#![tactic(auto)]
+
 ghost use Rattle.stack.specs.Examples.{WorkedExamples};
 
 #[cfg(test)]
