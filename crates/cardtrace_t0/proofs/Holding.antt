@@ -1,6 +1,6 @@
-use Rattle.std.proofs.Common.{◌≡◌, ℕ, zero, suc, ◌+◌, ◌<◌, ◌≤◌, min, Bool, true, false, cond, ltb, leb, List, [], ◌∷◌, ◌++◌, length, take, set, Some, None, Option, sym, refl, ap, ◌∙◌, subst, append_assoc, append-nil, arith, length-set, ltb-false, ltb-true, lt-ltb, leb-true}
+use Rattle.std.proofs.Common.{◌≡◌, ℕ, suc, ◌+◌, ◌≤◌, min, Bool, true, false, cond, ltb, leb, List, [], ◌∷◌, ◌++◌, length, take, set, Some, None, sym, refl, ap, ◌∙◌, append_assoc, append-nil, arith, length-set, ltb-false, ltb-true, leb-true}
 use Rattle.std.proofs.lemmas.List.{take_more_set}
-use Rattle.wire.specs.Records.{Kept, one_more, noted}
+use Rattle.wire.specs.Records.{Kept, noted}
 
 module _ {T : Type 0} where
   -- All are counted, to 2^32 − 1.

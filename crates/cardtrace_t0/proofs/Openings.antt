@@ -12,7 +12,7 @@ use Rattle.t0.specs.declared.settings.Style.{Style}
 use Rattle.t0link.specs.Links.{linked_by}
 use Rattle.wire.specs.MarkedLines.{are_marks, at_marks}
 use Rattle.cardtrace_t0.specs.Cards.{first_shelf, settings_said, style_said, link_by, link_said}
-use Rattle.cardtrace_t0.specs.Plays.{Stand, opening, over}
+use Rattle.cardtrace_t0.specs.Plays.{opening, over}
 
 -- Settings are their waits and their style: the fact beside them has one proof.
 settings_same : (s t : Settings) → s.waits ≡ t.waits → s.style ≡ t.style → s ≡ t

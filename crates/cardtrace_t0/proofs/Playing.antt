@@ -1,11 +1,11 @@
-use Rattle.std.proofs.Common.{◌≡◌, ℕ, ◌≤◌, Bool, true, false, cond, leb, List, [], ◌∷◌, ◌++◌, length, take, IfOk, Some, None, Option, Result, sym, refl, ap, ◌∙◌, append_assoc}
+use Rattle.std.proofs.Common.{◌≡◌, ℕ, ◌≤◌, Bool, true, false, cond, leb, List, ◌++◌, length, take, IfOk, Some, None, Result, sym, refl, ap, ◌∙◌, append_assoc}
 use Rattle.std.proofs.lemmas.Result.{IfOk-weaker}
-use Rattle.wire.specs.Records.{Kept, noted}
+use Rattle.wire.specs.Records.{noted}
 use Rattle.wire.specs.declared.traced.Traced.{Traced}
 use Rattle.apdu.specs.Applications.{App}
-use Rattle.link.specs.Meaning.{Linked, Crossing, Fate, carried, before, after, Asked, reset, by_fate, unmoved, crossed, was_reset}
+use Rattle.link.specs.Meaning.{Linked, Crossing, Fate, carried, before, after, reset, by_fate, unmoved, crossed, was_reset}
 use Rattle.link.specs.Turns.{Gave, restarted, Did}
-use Rattle.cardtrace_t0.specs.Traces.{character_lines, entry_line, turn_lines}
+use Rattle.cardtrace_t0.specs.Traces.{character_lines, entry_line}
 use Rattle.cardtrace_t0.proofs.Holding.{all_held}
 
 -- The lines of a turn's characters and its own line are what the turn prints.

@@ -1,15 +1,15 @@
-use Rattle.std.proofs.Common.{◌≡◌, ℕ, Bool, true, false, cond, eqb, ltb, List, [], ◌∷◌, ◌++◌, length, IfOk, Some, None, Option, Result, sym, refl, ap, ◌∙◌, append_assoc, append-nil}
+use Rattle.std.proofs.Common.{◌≡◌, ℕ, eqb, ltb, List, [], ◌∷◌, ◌++◌, length, IfOk, Some, None, Option, Result, sym, refl, ap, ◌∙◌, append-nil}
 use Rattle.std.proofs.lemmas.Bool.{cond_both}
 use Rattle.std.proofs.lemmas.Result.{IfOk-weaker}
 use Rattle.script.specs.Lines as lines
-use Rattle.script.specs.Readings.{Reading, Stepped, Out, more, line, bad, fresh, fed, finished, judged, grown, refused, line_ended, then_closed, closed, shown}
-use Rattle.script.specs.Scripts.{script, placed}
-use Rattle.script.specs.Steps.{brought, noted, told_as}
+use Rattle.script.specs.Readings.{Reading, Stepped, Out, more, line, bad, fed, finished, judged, shown}
+use Rattle.script.specs.Scripts.{placed}
+use Rattle.script.specs.Steps.{brought, noted}
 use Rattle.script.specs.declared.reader.Stage.{Stage}
 use Rattle.script.specs.declared.reader.Step.{Step}
 use Rattle.script.proofs.ScriptLaws as laws
 use Rattle.cardtrace_t0.specs.Plays.{Playing, Printed, played, printed, start}
-use Rattle.cardtrace_t0.specs.Sessions.{Tracing, Traced, step_played, by_step, takes, ends, prints, begins, TracesScripts}
+use Rattle.cardtrace_t0.specs.Sessions.{Tracing, step_played, by_step, takes, prints, begins, TracesScripts}
 use Rattle.cardtrace_t0.proofs.Whole.{whole}
 
 module _ (p : Playing) where

@@ -4,21 +4,20 @@ use Rattle.apps.specs.Files.{Shelf}
 use Rattle.apps.specs.FileValues.{files_app}
 use Rattle.link.specs.Meaning.{Linked, linked}
 use Rattle.link.specs.Turns.{Order, send, restart}
-use Rattle.script.specs.Fields.{and_then}
 use Rattle.script.specs.Lines as lines
 use Rattle.script.specs.Lines.{line_of, told}
 use Rattle.script.specs.Orders.{follows}
-use Rattle.script.specs.Readings.{Out, more, line, bad}
+use Rattle.script.specs.Readings.{line}
 use Rattle.script.specs.Scripts.{Script, script, placed, before, read_on, following}
 use Rattle.script.specs.Scripts as scripts
 use Rattle.script.specs.Steps.{told_as, bad_part}
 use Rattle.script.specs.declared.line.Settings.{Settings}
 use Rattle.script.specs.declared.reader.Stage.{Stage}
 use Rattle.script.specs.declared.reader.Stage.TheVariants.{Start, Marks, Turns}
-use Rattle.wire.specs.MarkedLines.{rising, are_marks}
+use Rattle.wire.specs.MarkedLines.{rising}
 use Rattle.cardtrace_t0.specs.Cards.{link_said}
 use Rattle.cardtrace_t0.specs.Traces.{free, turn_lines, marks_in, turns_printed, lines_printed, bad_printed, trace}
-use Rattle.cardtrace_t0.specs.Plays.{Stand, unlinked, opening, over, Playing, start, opened, turned, printed, played}
+use Rattle.cardtrace_t0.specs.Plays.{Stand, opening, over, Playing, start, opened, turned, printed}
 
 -- Lines that may stand one after the other from a stage on.
 data Ordered : Stage → List lines.Line → Type 0 where

@@ -1,4 +1,4 @@
-use Rattle.std.proofs.Common.{◌≡◌, ℕ, ◌+◌, ◌-◌, ◌<◌, ◌≤◌, min, Bool, true, false, cond, ltb, List, [], ◌∷◌, ◌++◌, length, get_or, take, drop, IfOk, Some, None, Option, Result, unwrap_or, sym, refl, ap, ◌∙◌, subst, append_assoc, append-nil, arith, length-take, ltb-false, ltb-true, le-leb}
+use Rattle.std.proofs.Common.{◌≡◌, ℕ, ◌+◌, ◌-◌, ◌<◌, ◌≤◌, min, Bool, true, false, cond, ltb, List, [], ◌∷◌, ◌++◌, length, get_or, take, drop, IfOk, Some, None, Option, Result, unwrap_or, sym, refl, ap, ◌∙◌, append_assoc, append-nil, arith, length-take, ltb-false, ltb-true, le-leb}
 use lib.Seq.{take-append_seam}
 use Rattle.std.proofs.lemmas.List.{take_all, take_more}
 use Rattle.std.proofs.lemmas.Result.{IfOk-weaker}

@@ -2,7 +2,7 @@ use Rattle.std.specs.Prelude.{ℕ, cond, List, [], ◌∷◌, ◌++◌, length, 
 use Rattle.apps.specs.Files.{Shelf}
 use Rattle.apps.specs.FileValues.{files_app}
 use Rattle.link.specs.Meaning.{Linked, linked}
-use Rattle.link.specs.Turns.{Order, send, restart, Did}
+use Rattle.link.specs.Turns.{Order, send, restart}
 use Rattle.script.specs.Lines as lines
 use Rattle.script.specs.Readings.{Out, more, line, bad}
 use Rattle.script.specs.Scripts.{following}

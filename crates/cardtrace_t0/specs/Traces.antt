@@ -1,8 +1,8 @@
-use Rattle.std.specs.Prelude.{ℕ, Bool, true, false, cond, List, [], ◌∷◌, ◌++◌, replicate, Some, None, Option}
+use Rattle.std.specs.Prelude.{ℕ, Bool, cond, List, [], ◌∷◌, ◌++◌, replicate, Some, None, Option}
 use Rattle.apps.specs.Files.{Shelf}
 use Rattle.apps.specs.FileValues.{files_app}
 use Rattle.link.specs.Meaning.{Linked, linked}
-use Rattle.link.specs.Turns.{Order, send, restart, Gave, gives, restarted, denied, Did}
+use Rattle.link.specs.Turns.{send, restart, Gave, gives, restarted, denied, Did}
 use Rattle.script.specs.Lines as lines
 use Rattle.script.specs.Scripts.{Script, following}
 use Rattle.script.specs.Traces.{character_line, turn_line, bad_line}

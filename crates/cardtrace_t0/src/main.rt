@@ -1,6 +1,8 @@
 // cardtrace plays a card script and prints each character and what each turn gave. It reads the script from standard input, or
 // from the file that its one argument names, and prints to standard output. What is printed is worked out by a session, byte by
 // byte; here are only the reading and the writing.
+#![tactic(auto)]
+
 mod session;
 
 use anyhow::anyhow;
@@ -12,9 +14,10 @@ use std::io::{BufWriter, Read, Write};
 // What a failed session says.
 fn failure(trouble: Trouble) -> anyhow::Error {
     match trouble {
-        Trouble::Memory => "there is no memory for the text".into(),
-        Trouble::LongTrace =>
-            "more characters crossed in a turn than the trace has places for".into(),
+        Trouble::Memory => anyhow!("there is no memory for the text"),
+        Trouble::LongTrace => anyhow!(
+            "more characters crossed in a turn than the trace has places for"
+        ),
     }
 }
 

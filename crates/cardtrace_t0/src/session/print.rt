@@ -138,9 +138,9 @@ fn send_traced<L: Link>(
     answer: &mut [u8; 256],
     places: &mut [Traced],
 ) -> (u32, Result<(usize, Status), Refusal>)
-    ensures turn { Sends (sent App-as-Application.means (meaning App-as-Application.means link.old) command.now answer.old) (meaning App-as-Application.means link.new) answer.new result.1 }
-    ensures trace { places.exit.now ≡ (noted (record { places = places.entry.now; count = 0 }) (sent App-as-Application.means (meaning App-as-Application.means link.old) command.now answer.old).characters).places }
-    ensures count { result.0 ≡ (noted (record { places = places.entry.now; count = 0 }) (sent App-as-Application.means (meaning App-as-Application.means link.old) command.now answer.old).characters).count }
+    ensures turn { Sends (sent L.App.Application.means (L.meaning L.App.Application.means link.old) command.now answer.old) (L.meaning L.App.Application.means link.new) answer.new result.1 }
+    ensures trace { places.exit.now ≡ (noted (record { places = places.entry.now; count = 0 }) (sent L.App.Application.means (L.meaning L.App.Application.means link.old) command.now answer.old).characters).places }
+    ensures count { result.0 ≡ (noted (record { places = places.entry.now; count = 0 }) (sent L.App.Application.means (L.meaning L.App.Application.means link.old) command.now answer.old).characters).count }
 {
     let mut trace = Record::new(places);
     let result = link.send(command, answer, &mut trace);
@@ -149,9 +149,9 @@ fn send_traced<L: Link>(
 
 // Resets the card over a link, likewise.
 fn reset_traced<L: Link>(link: &mut L, places: &mut [Traced]) -> (u32, Result<(), Refusal>)
-    ensures turn { Resets (was_reset App-as-Application.means (meaning App-as-Application.means link.old) []) (meaning App-as-Application.means link.new) result.1 }
-    ensures trace { places.exit.now ≡ (noted (record { places = places.entry.now; count = 0 }) (was_reset App-as-Application.means (meaning App-as-Application.means link.old) []).characters).places }
-    ensures count { result.0 ≡ (noted (record { places = places.entry.now; count = 0 }) (was_reset App-as-Application.means (meaning App-as-Application.means link.old) []).characters).count }
+    ensures turn { Resets (was_reset L.App.Application.means (L.meaning L.App.Application.means link.old) []) (L.meaning L.App.Application.means link.new) result.1 }
+    ensures trace { places.exit.now ≡ (noted (record { places = places.entry.now; count = 0 }) (was_reset L.App.Application.means (L.meaning L.App.Application.means link.old) []).characters).places }
+    ensures count { result.0 ≡ (noted (record { places = places.entry.now; count = 0 }) (was_reset L.App.Application.means (L.meaning L.App.Application.means link.old) []).characters).count }
 {
     let mut trace = Record::new(places);
     let result = link.reset(&mut trace);
@@ -166,8 +166,8 @@ pub(crate) fn play_send<L: Link>(
     command: &[u8],
     out: &mut Vec<u8>,
 ) -> Result<(), Trouble>
-    ensures after { meaning App-as-Application.means link.new ≡ (linked App-as-Application.means (meaning App-as-Application.means link.old) (send command.now) free).after }
-    ensures text { OnOk result (out.new.items ≡ out.old.items ++ turn_lines turn program (linked App-as-Application.means (meaning App-as-Application.means link.old) (send command.now) free)) }
+    ensures after { L.meaning L.App.Application.means link.new ≡ (linked L.App.Application.means (L.meaning L.App.Application.means link.old) (send command.now) free).after }
+    ensures text { OnOk result (out.new.items ≡ out.old.items ++ turn_lines turn program (linked L.App.Application.means (L.meaning L.App.Application.means link.old) (send command.now) free)) }
 {
     let mut answer = [0u8; 256];
     let mut places = [BLANK; TRACE_ROOM];
@@ -186,8 +186,8 @@ pub(crate) fn play_reset<L: Link>(
     program: u8,
     out: &mut Vec<u8>,
 ) -> Result<(), Trouble>
-    ensures after { meaning App-as-Application.means link.new ≡ (linked App-as-Application.means (meaning App-as-Application.means link.old) restart free).after }
-    ensures text { OnOk result (out.new.items ≡ out.old.items ++ turn_lines turn program (linked App-as-Application.means (meaning App-as-Application.means link.old) restart free)) }
+    ensures after { L.meaning L.App.Application.means link.new ≡ (linked L.App.Application.means (L.meaning L.App.Application.means link.old) restart free).after }
+    ensures text { OnOk result (out.new.items ≡ out.old.items ++ turn_lines turn program (linked L.App.Application.means (L.meaning L.App.Application.means link.old) restart free)) }
 {
     let mut places = [BLANK; TRACE_ROOM];
     let (count, result) = reset_traced(link, &mut places);

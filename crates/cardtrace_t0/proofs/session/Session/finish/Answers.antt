@@ -1,9 +1,9 @@
 use Rattle.std.proofs.Common.{◌∙◌}
 use Rattle.script.specs.Readers.{meaning}
-use Rattle.script.specs.Readings.{Stepped, fed, finished}
+use Rattle.script.specs.Readings.{Stepped, finished}
 use Rattle.cardtrace_t0.specs.Sessions.{tracing}
 use Rattle.cardtrace_t0.specs.Plays.{Playing}
-use Rattle.cardtrace_t0.proofs.Stepping.{writes, closes, tells_fed, tells_finished}
+use Rattle.cardtrace_t0.proofs.Stepping.{writes, closes, tells_finished}
 use Rattle.cardtrace_t0.proofs.session.Session.finish.Goals as goal
 
 pub returns : goal.returns

@@ -5,10 +5,10 @@ use Rattle.cardtrace_t0.proofs.session.print.play_reset.Goals as goal
 
 pub returns : goal.returns
 returns g c =
-    let app = g.App.Application.means in
+    let app = g.L.App.Application.means in
     let same = reset_alike app (g.L.Link.meaning app c.args.link.now) [] free in
     record {
-      after = c.reset-traced-count.ensures.turn.after ∙ same.after;
-      text = turn_text c.write-reset.result _ _ _ _ _ c.in-Some.characters.now _ _ c.reset-traced-count.result.0 c.args.turn c.args.program _ _
-          (search rules) c.reset-traced-count.ensures.count c.reset-traced-count.ensures.trace same.characters c.in-Some.ensures c.in-ok-write-characters.ensures c.write-reset.ensures (c.reset-traced-count.ensures.turn.gave ∙ same.gave);
+      after = c.reset_traced-count.ensures.turn.after ∙ same.after;
+      text = turn_text c.write_reset.result _ _ _ _ _ c.in-Some.characters.now _ _ c.reset_traced-count.result.0 c.args.turn c.args.program _ _
+          (search rules) c.reset_traced-count.ensures.count c.reset_traced-count.ensures.trace same.characters c.in-Some.ensures c.in_ok-write_characters.ensures c.write_reset.ensures (c.reset_traced-count.ensures.turn.gave ∙ same.gave);
     }
