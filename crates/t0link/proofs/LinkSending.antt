@@ -16,7 +16,11 @@ use Rattle.link.specs.Meaning.{Asked, command, Linked, carried, before, after, s
 use Rattle.link.specs.Results.{LinkSends, LinkResets}
 use Rattle.link.specs.Turns.{Did, gives, denied}
 use Rattle.t0.specs.declared.settings.Settings.{Settings}
+use Rattle.t0.specs.CardValues.{meant}
+use Rattle.t0.specs.Cards as cards
+use Rattle.t0.specs.Cards.{card_reset}
 use Rattle.t0.specs.Delivery.{Delivered, deliver}
+use Rattle.t0.specs.declared.card.Card.{Card}
 use Rattle.t0.specs.Dialogues.{Dialogue, dialogue, whole}
 use Rattle.t0link.specs.Links.{said_by, fate_of, linked_by}
 
@@ -89,6 +93,10 @@ unfolding deliver
 reset_so app s s' d x z b t eb es ez =
     subst (λ (k : Bool). LinkResets (was_reset app (linked_by s d x k) []) (linked_by s' d z k) (Ok tt) t t) (sym eb)
     (record { turn = record { after = ap (λ (k : Settings). linked_by k d z false) es ∙ ap (λ (k : app.State). linked_by s d k false) ez; gave = refl }; trace = grew_none t })
+
+-- A card that was reset has the application's state after a reset.
+pub reset_state : {V : Type 0} (app : App V) (c d : Card V) → meant app d ≡ card_reset app (meant app c) → app.state d.app ≡ app.resets (app.state c.app)
+reset_state app c d e = ap (λ (k : cards.Card app.State). k.state) e
 
 -- The answer bytes that opened the staging, put before the rest of the answer buffer.
 pub staged_out : (part zeros staged got whole : List ℕ) (n : ℕ) → n ≡ length part → staged ≡ opened part zeros → got ≡ take (n - 0) staged → got ++ drop (n - 0) whole ≡ opened part whole

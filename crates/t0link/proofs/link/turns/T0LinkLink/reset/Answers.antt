@@ -1,8 +1,7 @@
-use Rattle.std.proofs.Common.{Bool, ◌||◌, ap, ◌∙◌}
-use Rattle.t0.specs.Cards as cards
+use Rattle.std.proofs.Common.{Bool, ◌||◌, ap, ◌∙◌, rules}
 use Rattle.t0.specs.Cards.{nothing}
 use Rattle.t0link.specs.Resting.{resting}
-use Rattle.t0link.proofs.LinkSending.{reset_so}
+use Rattle.t0link.proofs.LinkSending.{reset_so, reset_state}
 use Rattle.t0link.proofs.Rests.{so_rests}
 use Rattle.t0link.proofs.link.turns.T0LinkLink.reset.Goals as goal
 
@@ -16,5 +15,4 @@ invariant_of-self g c =
 pub returns : goal.returns
 returns g c =
     let app = g.A.Application.means in
-    reset_so app c.args.self.now.card.settings c.reset.new.self.settings (g.L.Line.damage c.args.self.now.line) (app.state c.args.self.now.card.app) (app.state c.reset.new.self.app) c.args.self.now.lost c.args.trace.now
-    c.if-self.false c.reset.ensures.settings (ap (λ (k : cards.Card app.State). k.state) c.reset.ensures.card)
+    reset_so app _ _ _ _ _ _ _ c.if-self.false (search rules) (search (rules, reset_state app))
