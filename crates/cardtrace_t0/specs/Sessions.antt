@@ -15,7 +15,7 @@ use Rattle.script.specs.declared.reader.Step.TheVariants.{More, Refused}
 use Rattle.script.specs.declared.reader.Step.TheVariants as step
 use Rattle.script.specs.declared.reader.Step.{Step}
 use Rattle.t0link.specs.Links.{linked_by}
-use Rattle.t0link.specs.declared.link.T0Link.{T0Link}
+use Rattle.t0link.specs.declared.t0_link.T0Link.{T0Link}
 use Rattle.wire.specs.MarkedLines.{at_marks, marks_of}
 use Rattle.wire.specs.declared.marked.MarkedLine.{MarkedLine}
 use Rattle.cardtrace_t0.specs.declared.session.Session.{Session}

@@ -1,7 +1,7 @@
 use Rattle.std.proofs.Common.{◌≡◌, ℕ, zero, suc, ◌+◌, ◌*◌, ◌/◌, ◌%◌, ◌^◌, ◌<◌, ◌≤◌, true, false, eqb, leb, List, [], ◌∷◌, ◌++◌, length, get_or, Some, decimal, sym, refl, ap, ◌∙◌, arith}
 use Rattle.std.proofs.lemmas.Fmt.{digits_decimal, digits_value-decimal, decimal_nonempty, first_decimal, decimal_digit}
 use Rattle.std.proofs.lemmas.Bool.Decides.{nat_tests}
-use Rattle.std.specs.List.{AllByRecursion as All}
+use Rattle.std.specs.List.{AllByRecursion}
 use Rattle.script.specs.declared.line.Protocol.{Protocol}
 use Rattle.script.specs.declared.line.Protocol.TheVariants.{T0, T1}
 use Rattle.script.specs.declared.line.Style.{Style}
@@ -19,7 +19,7 @@ use Rattle.script.proofs.LineLaws.{settings_text}
 
 -- no comma among the bytes
 abbrev Plain : List ℕ → Type 0
-Plain p = All (λ b. eqb b 44 ≡ false) p
+Plain p = AllByRecursion (λ b. eqb b 44 ≡ false) p
 
 split_at : (p b : List ℕ) → Plain p → split (p ++ 44 ∷ b) ≡ Some (p, b)
 split_at [] b h = refl
@@ -53,7 +53,7 @@ number_back low high n h k m =
 digit_fine : (d : ℕ) → d < 16 → (is_hex (hex_digit d) ≡ true) × (hex_value (hex_digit d) ≡ d)
 digit_fine d h = (grind (arith, nat_tests), grind (arith, nat_tests))
 
-hex_fine : (bs : List ℕ) → All (λ b. b < 256) bs → (all_hex (hex bs) ≡ true) × (pairs (hex bs) ≡ bs)
+hex_fine : (bs : List ℕ) → AllByRecursion (λ b. b < 256) bs → (all_hex (hex bs) ≡ true) × (pairs (hex bs) ≡ bs)
 hex_fine [] h = (refl, refl)
 hex_fine (b ∷ bs) h =
     let f = digit_fine (b / 16) (omega arith) in
@@ -62,7 +62,7 @@ hex_fine (b ∷ bs) h =
     let m : (b / 16) * 16 + b % 16 ≡ b = omega arith in
     (rw (f.0, g.0, ih.0), rw (f.1, g.1, ih.1, m))
 
-command_back : (bs : List ℕ) → length bs ≤ 300 → All (λ b. b < 256) bs → command_of (hex bs) ≡ Some bs
+command_back : (bs : List ℕ) → length bs ≤ 300 → AllByRecursion (λ b. b < 256) bs → command_of (hex bs) ≡ Some bs
 command_back bs h k =
     let n = length_hex bs in
     let f = hex_fine bs k in

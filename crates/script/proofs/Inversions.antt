@@ -2,7 +2,7 @@ use Rattle.std.proofs.Common.{◌≡◌, ℕ, ◌+◌, ◌*◌, ◌/◌, ◌%◌
 use Rattle.std.proofs.lemmas.Fmt.{decimal-digits_value}
 use Rattle.std.proofs.lemmas.Str.Parse.{IsNumeralModel, numerals_by_fold}
 use Rattle.std.proofs.lemmas.Bool.Decides.{nat_tests}
-use Rattle.std.specs.List.{AllByRecursion as All}
+use Rattle.std.specs.List.{AllByRecursion}
 use Rattle.script.specs.Fields.{and_then, split, put_before, all_digits, well_led, value_after, number}
 use Rattle.script.specs.Hex.{hex, hex_digit, hex_value, is_hex, all_hex, pairs, command_of}
 use Rattle.script.proofs.Hexes.{length_pairs, hex_small, and_left, and_right}
@@ -66,7 +66,7 @@ digit_back c d e f =
     let n : (hex_value c * 16 + hex_value d) % 16 ≡ hex_value d = omega arith in
     (rw m (grind (arith, nat_tests)), rw n (grind (arith, nat_tests)))
 
-hex_pairs : (cs : List ℕ) → length cs % 2 ≡ 0 → all_hex cs ≡ true → (hex (pairs cs) ≡ cs) × All (λ b. b < 256) (pairs cs)
+hex_pairs : (cs : List ℕ) → length cs % 2 ≡ 0 → all_hex cs ≡ true → (hex (pairs cs) ≡ cs) × AllByRecursion (λ b. b < 256) (pairs cs)
 hex_pairs [] h e = (refl, tt)
 hex_pairs (c ∷ []) h e = absurd (omega arith)
 hex_pairs (c ∷ (d ∷ cs)) h e =
@@ -80,7 +80,7 @@ hex_pairs (c ∷ (d ∷ cs)) h e =
     (rw (b.0, b.1, ih.0), (omega arith, ih.1))
 
 -- a command is written just so, and lies within its limits
-pub command_inv : (text bytes : List ℕ) → command_of text ≡ Some bytes → (hex bytes ≡ text) × (length bytes ≤ 300) × All (λ b. b < 256) bytes
+pub command_inv : (text bytes : List ℕ) → command_of text ≡ Some bytes → (hex bytes ≡ text) × (length bytes ≤ 300) × AllByRecursion (λ b. b < 256) bytes
 command_inv text bytes e =
     let p = from_cond (leb (length text) 600 && (eqb (length text % 2) 0 && all_hex text)) (pairs text) bytes e in
     let a = and_left (leb (length text) 600) (eqb (length text % 2) 0 && all_hex text) p.0 in

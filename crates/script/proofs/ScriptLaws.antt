@@ -2,7 +2,7 @@ use Rattle.std.proofs.Common.{◌≡◌, ℕ, ◌<◌, ◌≤◌, Bool, true, fa
 use Rattle.std.proofs.lemmas.List.{append_assoc, append-nil, length-append, length_push}
 use Rattle.std.proofs.ByRecursion.{All-push}
 use Rattle.std.proofs.lemmas.Bool.Decides.{nat_tests}
-use Rattle.std.specs.List.{AllByRecursion as All}
+use Rattle.std.specs.List.{AllByRecursion}
 use Rattle.script.specs.declared.reader.Stage.{Stage}
 use Rattle.script.specs.declared.reader.Stage.TheVariants.{Start}
 use Rattle.script.specs.Lines.{Line, line_of}
@@ -13,7 +13,7 @@ use Rattle.script.specs.Steps.{noted, brought, told_as, ReadsScripts}
 
 -- no LF among the bytes
 abbrev Unbroken : List ℕ → Type 0
-Unbroken p = All (λ b. eqb b 10 ≡ false) p
+Unbroken p = AllByRecursion (λ b. eqb b 10 ≡ false) p
 
 -- a line ends at the LF after it
 lines_ended : (p b : List ℕ) → Unbroken p → lines (p ++ 10 ∷ b) ≡ p ∷ lines b

@@ -1,6 +1,6 @@
 use Rattle.std.specs.Prelude.{ℕ, ◌<◌, ◌≤◌, cond, List, ◌∷◌, ◌++◌, length, Some, None, codes, decimal, Option}
 use Rattle.std.specs.Option.{option_map}
-use Rattle.std.specs.List.{AllByRecursion as All}
+use Rattle.std.specs.List.{AllByRecursion}
 use Rattle.std.specs.Str.{bytes_eq}
 use Rattle.script.specs.declared.line.Protocol.{Protocol}
 use Rattle.script.specs.declared.line.Protocol.TheVariants.{T0, T1}
@@ -75,5 +75,5 @@ held (Some (reset u)) memory = memory
 abbrev pub Within : Line → Type 0
 Within (link s) = (1 ≤ s.ifsc) × (s.ifsc ≤ 254) × (1 ≤ s.ifsd) × (s.ifsd ≤ 254) × (s.waits ≤ 15)
 Within (damage k) = k ≤ 65535
-Within (send u bytes) = (u ≤ 255) × (length bytes ≤ 300) × All (λ b. b < 256) bytes
+Within (send u bytes) = (u ≤ 255) × (length bytes ≤ 300) × AllByRecursion (λ b. b < 256) bytes
 Within (reset u) = u ≤ 255

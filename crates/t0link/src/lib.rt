@@ -2,7 +2,7 @@
 #![tactic(auto)]
 
 mod laws;
-mod link;
+mod t0_link;
 
 pub use laws::{conversation_law, lost_exactly, t0_law};
-pub use link::T0Link;
+pub use t0_link::T0Link;

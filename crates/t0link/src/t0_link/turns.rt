@@ -1,7 +1,7 @@
 ghost use Rattle.std.specs.Prelude.{◌≡◌, false};
 ghost use Rattle.t0link.specs.Links.{linked_by};
 
-use crate::link::T0Link;
+use crate::t0_link::T0Link;
 use apdu::{Application, Refusal, Status, judge};
 use link::Link;
 use t0::{Card, Settings, Settled, converse};

@@ -3,7 +3,7 @@ use Rattle.t0.specs.Cards.{nothing}
 use Rattle.t0link.specs.Resting.{resting}
 use Rattle.t0link.proofs.LinkSending.{reset_so, reset_state}
 use Rattle.t0link.proofs.Rests.{so_rests}
-use Rattle.t0link.proofs.link.turns.T0LinkLink.reset.Goals as goal
+use Rattle.t0link.proofs.t0_link.turns.T0LinkLink.reset.Goals as goal
 
 pub invariant_of-self : goal.invariant_of-self
 invariant_of-self g c =

@@ -2,7 +2,7 @@ use Rattle.std.proofs.Common.{◌≡◌, ◌≤◌, Bool, true, ◌||◌, length
 use Rattle.apdu.specs.Judging.{parts}
 use Rattle.t0link.specs.Resting.{resting}
 use Rattle.t0link.proofs.LinkTurn.{part_few, part_room, well_of, rests_again, turn_done, turn_lost, turn_never}
-use Rattle.t0link.proofs.link.turns.T0LinkLink.send.Goals as goal
+use Rattle.t0link.proofs.t0_link.turns.T0LinkLink.send.Goals as goal
 
 pub slice_bounds-copy_from_slice-end : goal.slice_bounds-copy_from_slice-end
 slice_bounds-copy_from_slice-end g c =
