@@ -2,7 +2,7 @@ ghost use Rattle.apps.specs.FileValues.{files_app};
 ghost use Rattle.apps.specs.FileReplies.{good_run};
 
 use crate::files::Files;
-use apdu::{Application, Status};
+use apdu::{Application, Header, Status};
 
 impl Application for Files {
     ghost means = { files_app };
@@ -11,22 +11,14 @@ impl Application for Files {
 
     ghost lawful = { λ s cla ins p1 p2 body h. (good_run s cla ins p1 p2 body).1 };
 
-    fn run(
-        &mut self,
-        cla: u8,
-        ins: u8,
-        p1: u8,
-        p2: u8,
-        body: &[u8],
-        buffer: &mut [u8; 256],
-    ) -> (usize, Status) {
-        if cla != 0x00 {
+    fn run(&mut self, header: Header, body: &[u8], buffer: &mut [u8; 256]) -> (usize, Status) {
+        if header.cla != 0x00 {
             return (0, Status::unknown_class());
         }
-        match ins {
-            0xa4 => self.select(p1, p2, body, buffer),
-            0xb0 => self.read(p1, p2, body, buffer),
-            0xd6 => (0, self.update(p1, p2, body)),
+        match header.ins {
+            0xa4 => self.select(header.p1, header.p2, body, buffer),
+            0xb0 => self.read(header.p1, header.p2, body, buffer),
+            0xd6 => (0, self.update(header.p1, header.p2, body)),
             _ => (0, Status::unknown_instruction()),
         }
     }

@@ -6,7 +6,7 @@ ghost use Rattle.apps.specs.PurseState.{held, purse_means};
 ghost use Rattle.apps.specs.PurseReplies;
 
 use crate::purse::{LIMIT, Purse};
-use apdu::{Application, Status};
+use apdu::{Application, Header, Status};
 
 // Answers a number in the first four bytes of the buffer, high first.
 fn answer(cents: u32, buffer: &mut [u8; 256]) -> (usize, Status)
@@ -93,25 +93,17 @@ impl Application for Purse {
 
     ghost lawful = { λ ms cla ins p1 p2 body l. PurseReplies.lawful ms cla ins p1 p2 body };
 
-    fn run(
-        &mut self,
-        cla: u8,
-        ins: u8,
-        p1: u8,
-        p2: u8,
-        body: &[u8],
-        buffer: &mut [u8; 256],
-    ) -> (usize, Status) {
-        if cla != 0x80 {
+    fn run(&mut self, header: Header, body: &[u8], buffer: &mut [u8; 256]) -> (usize, Status) {
+        if header.cla != 0x80 {
             return (0, Status::unknown_class());
         }
-        if !matches!(ins, 0x50 | 0x52 | 0x54) {
+        if !matches!(header.ins, 0x50 | 0x52 | 0x54) {
             return (0, Status::unknown_instruction());
         }
-        if p1 != 0 || p2 != 0 {
+        if header.p1 != 0 || header.p2 != 0 {
             return (0, Status::wrong_parameters());
         }
-        match ins {
+        match header.ins {
             0x50 => self.show_balance(body, buffer),
             0x52 => self.credit(body, buffer),
             _ => self.debit(body, buffer),
