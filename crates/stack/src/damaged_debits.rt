@@ -20,30 +20,19 @@ const BLANK: Traced = Traced {
     damaged: false,
 };
 
-// What a turn gave as one number: the status and the first four bytes of the answer, or the refusal.
-fn gave(r: Result<(usize, Status), Refusal>, answer: &[u8; 256]) -> u64 {
-    match r {
-        Ok(p) => {
-            let status = u64::from(p.1.sw1()) * 256 + u64::from(p.1.sw2());
-            let front = u32::from_be_bytes([answer[0], answer[1], answer[2], answer[3]]);
-            status * 4_294_967_296 + u64::from(front)
-        }
-        Err(e) => u64::from(u8::from(e)),
-    }
-}
+// What a turn gave, and its answer buffer.
+type Gave = (Result<(usize, Status), Refusal>, [u8; 256]);
 
-fn over_t0(link: &mut T0Link<Purse, MarkedLine>, command: &[u8]) -> u64 {
+fn over_t0(link: &mut T0Link<Purse, MarkedLine>, command: &[u8]) -> Gave {
     let mut answer = [0u8; 256];
     let mut places = [BLANK; 8];
     let mut trace = Record::new(&mut places);
-    let r = link.send(command, &mut answer, &mut trace);
-    gave(r, &answer)
+    (link.send(command, &mut answer, &mut trace), answer)
 }
 
-fn directly(card: &mut DirectCard<Purse>, command: &[u8]) -> u64 {
+fn directly(card: &mut DirectCard<Purse>, command: &[u8]) -> Gave {
     let mut answer = [0u8; 256];
-    let r = card.send(command, &mut answer);
-    gave(r, &answer)
+    (card.send(command, &mut answer), answer)
 }
 
 // A credit of 500, a debit of 100 and the balance, over T=0 with these positions damaged and on the direct card told the turn
@@ -66,7 +55,8 @@ fn compare(
     assert_eq!(rt; over_t0(&mut link, CREDIT), directly(&mut card, CREDIT));
     assert_eq!(rt; over_t0(&mut link, DEBIT), directly(&mut card, DEBIT));
     assert_eq!(rt; over_t0(&mut link, BALANCE), directly(&mut card, BALANCE));
-    assert_eq!(rt; over_t0(&mut link, b"\x80\x50"), 1);
+    let (malformed, _) = over_t0(&mut link, b"\x80\x50");
+    assert_eq!(rt; malformed, Err(Refusal::Malformed));
     Ok(())
 }
 

@@ -6,12 +6,10 @@ use t0::{Settings, Style};
 use t0link::T0Link;
 use wire::{MarkedLine, Record, Sender, Traced};
 
-// The status as a number, or the number of the refusal.
-fn outcome(r: Result<(usize, Status), Refusal>) -> u32 {
-    match r {
-        Ok(p) => u32::from(p.1.sw1()) * 256 + u32::from(p.1.sw2()),
-        Err(e) => u32::from(u8::from(e)),
-    }
+// SW1 and SW2 of the status, or the refusal.
+fn outcome(r: Result<(usize, Status), Refusal>) -> Result<[u8; 2], Refusal> {
+    let (_, status) = r?;
+    Ok([status.sw1(), status.sw2()])
 }
 
 // The first four bytes of an answer buffer as a number.
@@ -34,24 +32,27 @@ fn file_is_selected_and_read(rt: HostRuntime) -> Result<(), Fail> {
     let mut short = [0u8; 255];
     assert_eq!(rt;
         outcome(card.send(b"\x00\xB0\x00\x00\x00", &mut answer)),
-        0x6986
+        Ok([0x69, 0x86])
     );
     assert_eq!(rt;
         outcome(card.send(b"\x00\xA4\x00\x00\x02\x2F\x01\x04", &mut answer)),
-        0x9000
+        Ok([0x90, 0x00])
     );
     assert_eq!(rt; front(&answer), 0x6F088002);
     assert_eq!(rt; answer[4], 0xEE);
     assert_eq!(rt;
         outcome(card.send(b"\x00\xB0\x00\x00\x00", &mut answer)),
-        0x9000
+        Ok([0x90, 0x00])
     );
     assert_eq!(rt; front(&answer), 0x41428002);
-    assert_eq!(rt; outcome(card.send(b"\x00\xB0\x00\x00\x00", &mut short)), 4);
+    assert_eq!(rt;
+        outcome(card.send(b"\x00\xB0\x00\x00\x00", &mut short)),
+        Err(Refusal::Room)
+    );
     assert!(rt; card.reset().is_ok());
     assert_eq!(rt;
         outcome(card.send(b"\x00\xB0\x00\x00\x00", &mut answer)),
-        0x6986
+        Ok([0x69, 0x86])
     );
     Ok(())
 }
@@ -62,21 +63,30 @@ fn purse_is_debited_once_up_to_the_loss(rt: HostRuntime) {
     let mut answer = [0u8; 256];
     assert_eq!(rt;
         outcome(card.send(b"\x80\x52\x00\x00\x04\x00\x00\x01\xF4\x00", &mut answer)),
-        0x9000
+        Ok([0x90, 0x00])
     );
     assert_eq!(rt; front(&answer), 500);
     assert_eq!(rt;
         outcome(card.send(b"\x80\x54\x00\x00", &mut answer)),
-        0x6700
+        Ok([0x67, 0x00])
     );
-    assert_eq!(rt; outcome(card.send(b"\x80", &mut answer)), 1);
+    assert_eq!(rt;
+        outcome(card.send(b"\x80", &mut answer)),
+        Err(Refusal::Malformed)
+    );
     assert_eq!(rt;
         outcome(card.send(b"\x80\x54\x00\x00\x04\x00\x00\x00\x01\x00", &mut answer)),
-        5
+        Err(Refusal::Lost)
     );
-    assert_eq!(rt; outcome(card.send(b"\xFF\x54\x00\x00", &mut answer)), 2);
+    assert_eq!(rt;
+        outcome(card.send(b"\xFF\x54\x00\x00", &mut answer)),
+        Err(Refusal::Reserved)
+    );
     assert!(rt; card.reset().is_err());
-    assert_eq!(rt; outcome(card.send(b"\x80\x50\x00\x00\x04", &mut answer)), 5);
+    assert_eq!(rt;
+        outcome(card.send(b"\x80\x50\x00\x00\x04", &mut answer)),
+        Err(Refusal::Lost)
+    );
     assert_eq!(rt; front(&answer), 500);
 }
 
@@ -103,7 +113,7 @@ fn purse_over_t0_is_debited_once(rt: HostRuntime) -> Result<(), Fail> {
             &mut answer,
             &mut trace,
         )),
-        0x9000
+        Ok([0x90, 0x00])
     );
     assert_eq!(rt; front(&answer), 500);
     assert_eq!(rt;
@@ -112,7 +122,7 @@ fn purse_over_t0_is_debited_once(rt: HostRuntime) -> Result<(), Fail> {
             &mut answer,
             &mut trace,
         )),
-        0x9000
+        Ok([0x90, 0x00])
     );
     assert_eq!(rt; front(&answer), 0);
     assert_eq!(rt;
@@ -121,7 +131,7 @@ fn purse_over_t0_is_debited_once(rt: HostRuntime) -> Result<(), Fail> {
             &mut answer,
             &mut trace,
         )),
-        0x6985
+        Ok([0x69, 0x85])
     );
     assert!(rt; link.reset(&mut trace).is_ok());
     Ok(())
