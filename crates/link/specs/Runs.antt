@@ -11,10 +11,6 @@ use Rattle.link.specs.declared.refusal.RunRefusal.TheVariants.{JournalFull}
 use Rattle.link.specs.declared.row.Row.{Row}
 use Rattle.link.specs.declared.turn.Turn.{Turn}
 
--- The bytes that a turn sends: a place in lent bytes for tag 0, none for any other tag.
-abbrev pub turn_command : List ℕ → Turn → List ℕ
-turn_command commands t = cond (t.tag == 0) (placed commands t.start t.length) []
-
 -- All that one turn of a run did is what `d` says, where `d` had the data buffer from the first free byte on as its answer
 -- buffer: what took the turn, each byte of the data buffer, the first byte that is then free, the row noted in the journal, and
 -- the characters noted in the trace.

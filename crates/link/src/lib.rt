@@ -12,6 +12,7 @@ mod link;
 mod refusal;
 mod row;
 mod running;
+mod taking;
 #[cfg(test)]
 mod tests;
 mod turn;
@@ -23,4 +24,5 @@ pub use link::Link;
 pub use refusal::RunRefusal;
 pub use row::Row;
 pub use running::run;
-pub use turn::Turn;
+pub use taking::take;
+pub use turn::{Order, Turn};
