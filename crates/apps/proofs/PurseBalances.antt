@@ -16,19 +16,6 @@ balance_joined [] = refl
 balance_joined (m ∷ []) = refl
 balance_joined (m ∷ (n ∷ ms)) = omega (arith, ints)
 
--- Movements of 0 have a balance of 0, and are sound; so are none.
-abbrev Zeros : List ℤ → Type 0
-Zeros [] = Unit {0}
-Zeros (m ∷ ms) = (m ≡ pos 0) × Zeros ms
-
-balance_zeros : (ms : List ℤ) (n : ℕ) → Zeros ms → balance (take n ms) ≡ pos 0
-balance_zeros ms zero h = refl
-balance_zeros [] (suc n) h = refl
-balance_zeros (m ∷ ms) (suc n) h = let e = balance_zeros ms n h.1 in omega (arith, ints, h.0)
-
-pub sound_zeros : (ms : List ℤ) → Zeros ms → Sound ms
-sound_zeros ms h n = subst (λ (b : ℤ). T (within b)) (sym (balance_zeros ms n h)) tt
-
 sound_joined : (ms : List ℤ) → Sound ms → Sound (joined ms)
 sound_joined [] h k = h k
 sound_joined (m ∷ []) h k = h k

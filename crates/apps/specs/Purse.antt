@@ -1,4 +1,4 @@
-use Rattle.std.specs.Prelude.{◌≡◌, ℕ, ◌+◌, ◌*◌, ◌/◌, ◌%◌, Bool, cond, not, ◌&&◌, ◌||◌, T, List, [], ◌∷◌, ◌++◌, length, take, ℤ, pos, negsuc, ◌+ℤ◌, ◌-ℤ◌, neg_ℤ, Ok, Err, fold, Result, ◌==◌, ◌≢◌, int_le, nat_le}
+use Rattle.std.specs.Prelude.{◌≡◌, ℕ, ◌+◌, ◌*◌, ◌/◌, ◌%◌, ◌≤◌, Bool, cond, not, ◌&&◌, ◌||◌, T, List, [], ◌∷◌, ◌++◌, length, take, ℤ, pos, negsuc, ◌+ℤ◌, ◌-ℤ◌, neg_ℤ, Ok, Err, fold, Result, ◌==◌, ◌≢◌, int_le, nat_le}
 use Rattle.apdu.specs.Applications.{Outcome}
 use Rattle.apdu.specs.Statuses.{done, wrong_length, conditions_not_met, wrong_data, wrong_parameters, unknown_instruction, unknown_class}
 use Rattle.apdu.specs.declared.status.Status.{Status}
@@ -38,6 +38,12 @@ recorded ms m = cond (nat_le places (length ms)) (joined ms) ms ++ (m ∷ [])
 -- The balance lay in its limits after each movement: the first n have such a sum, for every n.
 abbrev pub Sound : List ℤ → Type 0
 Sound ms = (n : ℕ) → T (within (balance (take n ms)))
+
+-- What a purse holds: at most 32 movements, after each of which the balance lay in its limits, so that no sum of them
+-- overflows.
+pub record Kept (ms : List ℤ) : Type 0 where
+  pub few : length ms ≤ places
+  pub sound : Sound ms
 
 -- The number that bytes are, high first.
 abbrev pub number_of : List ℕ → ℕ
