@@ -1,33 +1,13 @@
-use Rattle.std.proofs.Common.{◌≡◌, ℕ, suc, ◌+◌, ◌-◌, ◌<◌, ◌≤◌, Bool, true, false, cond, eqb, List, [], ◌∷◌, map, length, get_or, take, drop, set, Some, None, Option, sym, refl, ap, ◌∙◌, subst, arith}
-use Rattle.std.proofs.lemmas.List.{at_drop_more, at_drop_all}
+use Rattle.std.proofs.Common.{◌≡◌, ℕ, suc, ◌+◌, ◌<◌, Bool, true, false, cond, eqb, List, [], ◌∷◌, length, get_or, set, Some, None, Option, sym, refl, ap, ◌∙◌, subst, arith}
+use Rattle.std.specs.List.{position_from}
+use Rattle.std.proofs.lemmas.Iterator.Adapters.{position_from-zero}
 use Rattle.std.proofs.lemmas.Bool.{eq-eqb, ne_eqb, eqb-true, eqb-false, cond-true, cond-false}
-use Rattle.apps.specs.Files.{File, find, replaced}
-use Rattle.apps.specs.FilePlaces.{place, place_from}
-use Rattle.apps.specs.FileSlots.{file_of}
-use Rattle.apps.specs.declared.files.slot.Slot.{Slot}
+use Rattle.apps.specs.Files.{File, find, named, replaced}
+use Rattle.apps.specs.FilePlaces.{place, place_named}
 
--- The search at place i of a list of slots: what stands from there on.
-abbrev pub looking : ℕ → List Slot → ℕ → Option ℕ
-looking id xs i = place_from i id (map file_of (drop i xs))
-
-pub looking_here : (id : ℕ) (xs : List Slot) (i : ℕ) (s : Slot) → i < length xs → s ≡ get_or xs i s → s.id ≡ id → looking id xs i ≡ Some i
-looking_here id xs i s h e q =
-    at_drop_more (λ (ys : List Slot). place_from i id (map file_of ys)) xs i s h
-    ∙ cond-true (eqb (get_or xs i s).id id) _ _ (eq-eqb (get_or xs i s).id id (ap (λ (t : Slot). t.id) (sym e) ∙ q))
-
-pub looking_on : (id : ℕ) (xs : List Slot) (i : ℕ) (s : Slot) → i < length xs → s ≡ get_or xs i s → (s.id ≡ id → ⊥) → looking id xs i ≡ looking id xs (i + 1)
-looking_on id xs i s h e q =
-    at_drop_more (λ (ys : List Slot). place_from i id (map file_of ys)) xs i s h
-    ∙ cond-false (eqb (get_or xs i s).id id) _ _ (ne_eqb (get_or xs i s).id id (λ z. q (ap (λ (t : Slot). t.id) e ∙ z)))
-
-pub looking_past : (id : ℕ) (xs : List Slot) (i : ℕ) → length xs ≤ i → looking id xs i ≡ None
-looking_past id xs i h = at_drop_all (λ (ys : List Slot). place_from i id (map file_of ys)) xs i h
-
--- The first n slots as the code cuts them out.
-pub first : (id n : ℕ) (slots : List Slot) → place id (map file_of (take (n - 0) slots)) ≡ place id (map file_of (take n slots))
-first id n slots =
-    let z : n - 0 ≡ n = omega arith in
-    ap (λ (m : ℕ). place id (map file_of (take m slots))) z
+-- The place of the first file with this id, where the files stand from place n on.
+abbrev place_from : ℕ → ℕ → List File → Option ℕ
+place_from n id fs = position_from (λ f. eqb f.id id) n fs
 
 -- What place i tells of the files that stand from place n on: k files stand before it.
 pub record Found (fs : List File) (n id i k : ℕ) : Type 0 where
@@ -71,7 +51,7 @@ found_from (f ∷ fs) n id i h = found_step f fs n id i (eqb f.id id) refl h (fo
 
 pub found : (fs : List File) (id i : ℕ) → Some i ≡ place id fs → Found fs 0 id i i
 found fs id i h =
-    let r = found_from fs 0 id i (sym h) in
+    let r = found_from fs 0 id i (sym (h ∙ position_from-zero (λ f. eqb f.id id) fs)) in
     let e : r.0 ≡ i = omega (arith, r.1.at) in
     subst (λ (k : ℕ). Found fs 0 id i k) e r.1
 
@@ -85,4 +65,22 @@ missing_from [] n id h = refl
 missing_from (f ∷ fs) n id h = missing_step f fs n id (eqb f.id id) refl h (missing_from fs (n + 1) id)
 
 pub missing : (fs : List File) (id : ℕ) → None ≡ place id fs → find id fs ≡ None
-missing fs id h = missing_from fs 0 id (sym h)
+missing fs id h = missing_from fs 0 id (sym (h ∙ position_from-zero (λ f. eqb f.id id) fs))
+
+-- The same of a name.
+pub named_found : (fs : List File) (name : Option ℕ) (i : ℕ) (d : File) → Some i ≡ place_named name fs → named name fs ≡ Some (get_or fs i d)
+named_found fs None i d h = absurd (cc)
+named_found fs (Some id) i d h = (found fs id i h).finds d
+
+pub named_replaced : (fs : List File) (name : Option ℕ) (i : ℕ) (d g : File) → Some i ≡ place_named name fs → g.id ≡ (get_or fs i d).id
+    → replaced g fs ≡ set fs i g
+named_replaced fs None i d g h q = absurd (cc)
+named_replaced fs (Some id) i d g h q = let r = found fs id i h in r.replaces g (q ∙ r.named d)
+
+pub named_inside : (fs : List File) (name : Option ℕ) (i : ℕ) → Some i ≡ place_named name fs → i < length fs
+named_inside fs None i h = absurd (cc)
+named_inside fs (Some id) i h = (found fs id i h).inside
+
+pub named_missing : (fs : List File) (name : Option ℕ) → None ≡ place_named name fs → named name fs ≡ None
+named_missing fs None h = refl
+named_missing fs (Some id) h = missing fs id h

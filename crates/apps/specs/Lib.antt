@@ -3,7 +3,6 @@ pub mod PurseState
 pub mod Files
 pub mod FileTables
 pub mod FilePlaces
-pub mod FileSlots
 pub mod FileValues
 pub mod FileReplies
 pub mod PurseReplies

@@ -1,8 +1,58 @@
+ghost use Rattle.std.specs.Prelude.{◌≡◌, ◌≤◌, length};
+ghost use Rattle.apdu.specs.Applications.{opened};
+ghost use Rattle.apps.specs.Files.{files_run};
 ghost use Rattle.apps.specs.FileValues.{files_app};
-ghost use Rattle.apps.specs.FileReplies.{good_run};
+ghost use Rattle.apps.specs.FileReplies.{Answered, good_run};
 
 use crate::files::Files;
 use apdu::{Application, Status};
+
+// The class of the commands of files, and their instructions.
+const CLASS: u8 = 0x00;
+
+const SELECT: u8 = 0xa4;
+
+const READ_BINARY: u8 = 0xb0;
+
+const UPDATE_BINARY: u8 = 0xd6;
+
+// Opens the buffer with an answer, and counts its bytes.
+fn write(answer: &[u8], buffer: &mut [u8; 256]) -> usize
+    requires { length answer.now ≤ 256 }
+    ensures answer { buffer.new ≡ opened answer.now buffer.old }
+    ensures count { result ≡ length answer.now }
+{
+    buffer[..answer.len()].copy_from_slice(answer);
+    answer.len()
+}
+
+impl Files {
+    // Runs a command: the count of answer bytes, which open the buffer, or the status that refuses it.
+    fn obey(
+        &mut self,
+        cla: u8,
+        ins: u8,
+        p1: u8,
+        p2: u8,
+        body: &[u8],
+        buffer: &mut [u8; 256],
+    ) -> Result<usize, Status>
+        ensures { Answered (files_run self.old cla ins p1 p2 body.now) self.new result buffer.old buffer.new }
+    {
+        if cla != CLASS {
+            return Err(Status::unknown_class());
+        }
+        match ins {
+            SELECT => Ok(write(&self.select(p1, p2, body)?, buffer)),
+            READ_BINARY => Ok(write(self.read(p1, p2, body)?, buffer)),
+            UPDATE_BINARY => {
+                self.update(p1, p2, body)?;
+                Ok(0)
+            }
+            _ => Err(Status::unknown_instruction()),
+        }
+    }
+}
 
 impl Application for Files {
     ghost means = { files_app };
@@ -20,14 +70,9 @@ impl Application for Files {
         body: &[u8],
         buffer: &mut [u8; 256],
     ) -> (usize, Status) {
-        if cla != 0x00 {
-            return (0, Status::unknown_class());
-        }
-        match ins {
-            0xa4 => self.select(p1, p2, body, buffer),
-            0xb0 => self.read(p1, p2, body, buffer),
-            0xd6 => (0, self.update(p1, p2, body)),
-            _ => (0, Status::unknown_instruction()),
+        match self.obey(cla, ins, p1, p2, body, buffer) {
+            Ok(count) => (count, Status::done()),
+            Err(status) => (0, status),
         }
     }
 
