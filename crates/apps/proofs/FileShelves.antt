@@ -1,14 +1,15 @@
-use Rattle.std.proofs.Common.{◌≡◌, ℕ, ◌+◌, ◌*◌, ◌<◌, ◌&&◌, true, cond, eqb, ltb, leb, List, [], length, get_or, set, drop, take, Some, None, Option, Ok, Err, Result, sym, refl, ap, ◌∙◌, arith, nat_lt}
+use Rattle.std.proofs.Common.{◌≡◌, ℕ, ◌+◌, ◌*◌, ◌&&◌, cond, eqb, ltb, leb, List, [], length, get_or, set, Some, None, Option, Ok, Err, Result, sym, refl, ap, ◌∙◌, nat_lt}
 use Rattle.std.specs.List.{refill}
 use Rattle.std.specs.Option.{ok_or}
-use Rattle.std.proofs.lemmas.List.{take_at, take_all, length-set}
-use Rattle.std.proofs.lemmas.Bool.{lt-ltb, eq-eqb, and_from, cond-true, cond-false, cond_both}
-use Rattle.apdu.specs.Applications.{Reply, Outcome}
+use Rattle.std.proofs.lemmas.List.{take_at, length-set}
+use Rattle.std.proofs.lemmas.Bool.{eq-eqb, and_from, cond-true, cond-false, cond_both}
+use Rattle.apdu.specs.Applications.{Outcome}
 use Rattle.apdu.specs.Statuses.{done, no_current_file, file_not_found, wrong_parameters}
 use Rattle.apdu.specs.declared.status.Status.{Status}
-use Rattle.apps.specs.Files.{File, Shelf, find, named, replaced, refused, replied, gives, number_in, description, selected, select_file, read_file, read_from, read_binary, update_file, update_in, update_binary, put_back}
+use Rattle.apps.specs.Files.{File, Shelf, find, named, refused, number_in, description, selected, select_file, read_file, read_from, read_binary, update_file, update_in, update_binary, put_back}
+use Rattle.apps.specs.Replies.{gives}
 use Rattle.apps.specs.FilePlaces.{place, place_named, at_offset, current_at}
-use Rattle.apps.proofs.FilePlaces.{found, missing, named_found, named_replaced, named_inside, named_missing}
+use Rattle.apps.proofs.FilePlaces.{found, missing, named_found, named_replaced, named_missing}
 
 -- What SELECT comes to.
 module _ (s : Shelf) (p1 p2 : ℕ) (body : List ℕ) (a : p1 ≡ 0) (b : p2 ≡ 0) (l : length body ≡ 2) (id : ℕ) (e : id ≡ number_in body) where

@@ -4,7 +4,7 @@ use Rattle.std.proofs.lemmas.List.{at_drop_more, at_drop_all, take_all, map_more
 use Rattle.std.proofs.lemmas.Bool.{le-leb, and_left, and_right, and_from, cond-true, cond-false}
 use Rattle.apdu.specs.declared.refusal.SettingRefusal.{SettingRefusal}
 use Rattle.apdu.specs.declared.refusal.SettingRefusal.TheVariants.{OutsideLimits}
-use Rattle.apps.specs.Files.{File, Shelf}
+use Rattle.apps.specs.Files.{File}
 use Rattle.apps.specs.FileTables.{fits, file_from, file_in, all_fit, distinct, within_limits, shelf_of}
 use Rattle.apps.specs.FileValues.{shelf_if}
 use Rattle.apps.specs.declared.files.entry.Entry.{Entry}

@@ -1,6 +1,5 @@
 pub mod PurseBalances
 pub mod PursePlaces
-pub mod PurseAmounts
 pub mod PurseLaws
 pub mod FilePlaces
 pub mod FileShelves

@@ -5,7 +5,7 @@ use Rattle.std.proofs.lemmas.Int.{ints}
 use Rattle.std.specs.List.{remove, refill}
 use Rattle.apdu.specs.Statuses.{conditions_not_met}
 use Rattle.apps.specs.Purse.{balance, within, joined, recorded, shown, four_bytes, Sound, Kept, accepts, refuses, move_by}
-use Rattle.apps.specs.PurseReplies.{gives}
+use Rattle.apps.specs.Replies.{gives}
 use Rattle.apps.proofs.PurseBalances.{fits_within, sound_recorded}
 
 -- What makes place for a movement: where 32 are held, the two oldest become one.
@@ -53,7 +53,7 @@ kept_recorded ms after m kept w e =
 
 -- An accepted movement leaves what is recorded, and answers its balance.
 pub moved : (ms after : List ℤ) (m : ℤ) (cents : ℕ) → true ≡ within (balance ms +ℤ m) → after ≡ recorded ms m → pos cents ≡ balance after
-    → gives after (Ok cents) ≡ move_by ms m
+    → gives after four_bytes (Ok cents) ≡ move_by ms m
 moved ms after m cents w e b =
     let s : four_bytes cents ≡ shown (balance (recorded ms m)) = ap shown (b ∙ ap balance e) in
     rw (e, s) (sym (cond-true (within (balance ms +ℤ m)) (accepts (recorded ms m)) (refuses ms conditions_not_met) (sym w)))

@@ -1,4 +1,4 @@
-use Rattle.std.specs.Prelude.{ℕ, ◌+◌, ◌*◌, ◌/◌, ◌%◌, cond, ◌&&◌, List, [], ◌∷◌, ◌++◌, length, take, drop, Some, None, Option, Ok, Err, Result, ◌==◌, nat_le, nat_lt, slice_index}
+use Rattle.std.specs.Prelude.{ℕ, ◌+◌, ◌*◌, ◌/◌, ◌%◌, cond, ◌&&◌, List, [], ◌∷◌, ◌++◌, length, take, drop, Some, None, Option, ◌==◌, nat_le, nat_lt, slice_index}
 use Rattle.apdu.specs.declared.status.Status.{Status}
 use Rattle.apdu.specs.Applications.{Reply, Outcome}
 use Rattle.apdu.specs.Statuses.{done, wrong_length, no_current_file, file_not_found, wrong_parameters, past_the_end, unknown_instruction, unknown_class}
@@ -35,15 +35,6 @@ bare status = record { answer = []; status = status }
 -- A refusal: the state stays, and the reply is a status alone.
 abbrev pub refused : {S : Type 0} → S → Status → Outcome S
 refused s status = record { state = s; reply = bare status }
-
--- What a result says of a command: it answers the bytes that `bytes` reads off it, with 9000, or it is refused.
-abbrev pub replied : {T : Type 0} → (T → List ℕ) → Result T Status → Reply
-replied bytes (Ok answer) = record { answer = bytes answer; status = done }
-replied bytes (Err why) = bare why
-
--- What a command gives: the state that it leaves, and the reply of its result.
-abbrev pub gives : {S T : Type 0} → S → (T → List ℕ) → Result T Status → Outcome S
-gives state bytes result = record { state = state; reply = replied bytes result }
 
 -- A number as two bytes, the high one first, and the number that two bytes spell.
 abbrev pub two_bytes : ℕ → List ℕ

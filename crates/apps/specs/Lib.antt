@@ -1,3 +1,4 @@
+pub mod Replies
 pub mod Purse
 pub mod PurseState
 pub mod Files

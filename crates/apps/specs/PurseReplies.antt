@@ -1,19 +1,10 @@
-use Rattle.std.specs.Prelude.{◌≡◌, ℕ, ◌≤◌, not, ◌&&◌, ◌||◌, List, [], length, ℤ, pos, negsuc, ◌+ℤ◌, neg_ℤ, Ok, Err, Result, ◌==◌, refl}
+use Rattle.std.specs.Prelude.{◌≡◌, ℕ, ◌≤◌, not, ◌&&◌, ◌||◌, List, length, ℤ, pos, negsuc, ◌+ℤ◌, neg_ℤ, Ok, Err, Result, ◌==◌, refl}
 use Rattle.std.proofs.Common.{arith}
 use Rattle.std.proofs.lemmas.Bool.{cond_both}
-use Rattle.apdu.specs.Applications.{Reply, Outcome, CarriesData}
-use Rattle.apdu.specs.Statuses.{done, wrong_length, conditions_not_met, wrong_parameters, unknown_instruction, unknown_class}
+use Rattle.apdu.specs.Applications.{Outcome, CarriesData}
+use Rattle.apdu.specs.Statuses.{wrong_length, conditions_not_met, wrong_parameters, unknown_instruction, unknown_class}
 use Rattle.apdu.specs.declared.status.Status.{Status}
-use Rattle.apps.specs.Purse.{four_bytes, balance, within, recorded, shown, refuses, accepts, show_balance, move_by, amount_of, move_amount, purse_run}
-
--- What a result says of a command: it answers these cents in four bytes with 9000, or it is refused with this status.
-abbrev pub replied : Result ℕ Status → Reply
-replied (Ok cents) = record { answer = four_bytes cents; status = done }
-replied (Err why) = record { answer = []; status = why }
-
--- What a command gives: the movements that it leaves, and the reply of its result.
-abbrev pub gives : List ℤ → Result ℕ Status → Outcome (List ℤ)
-gives ms result = record { state = ms; reply = replied result }
+use Rattle.apps.specs.Purse.{balance, within, recorded, shown, refuses, accepts, show_balance, move_by, amount_of, move_amount, purse_run}
 
 -- Every command is accepted with some movements, or refused with a status.
 module _ (ms : List ℤ) (P : Outcome (List ℤ) → Type 0) (yes : (after : List ℤ) → P (accepts after)) (no : (why : Status) → P (refuses ms why)) where

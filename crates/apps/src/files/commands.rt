@@ -1,5 +1,6 @@
 ghost use Rattle.std.specs.Prelude.{◌≡◌, ◌≤◌, [], length, IfOk};
-ghost use Rattle.apps.specs.Files.{gives, select_file, read_binary, update_binary};
+ghost use Rattle.apps.specs.Files.{select_file, read_binary, update_binary};
+ghost use Rattle.apps.specs.Replies.{gives};
 
 use crate::files::Files;
 use apdu::Status;

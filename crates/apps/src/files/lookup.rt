@@ -19,8 +19,10 @@ impl Files {
         if p1 >= 0x80 {
             return Err(Status::wrong_parameters());
         }
-        let id = self.current.ok_or(Status::no_current_file())?;
-        let place = self.find(id).ok_or(Status::no_current_file())?;
-        Ok((place, p1 as usize * 256 + p2 as usize))
+        let place = self
+            .current
+            .and_then(|id| self.find(id))
+            .ok_or(Status::no_current_file())?;
+        Ok((place, u16::from_be_bytes([p1, p2]) as usize))
     }
 }

@@ -1,8 +1,8 @@
 ghost use Rattle.std.specs.Prelude.{◌≡◌};
-ghost use Rattle.apps.specs.Purse.{amount_of, show_balance, credit, debit, purse_run};
+ghost use Rattle.apps.specs.Purse.{four_bytes, amount_in, show_balance, purse_run};
 ghost use Rattle.apps.specs.PurseState.{purse_means};
 ghost use Rattle.apps.specs.PurseReplies;
-ghost use Rattle.apps.specs.PurseReplies.{gives};
+ghost use Rattle.apps.specs.Replies.{gives};
 
 use crate::purse::{LIMIT, Purse};
 use apdu::{Application, Status};
@@ -17,23 +17,23 @@ const CREDIT: u8 = 0x52;
 const DEBIT: u8 = 0x54;
 
 // Reads an amount off the data of a command, or says why it is refused.
-fn read_amount(body: &[u8]) -> Result<u32, Status>
-    ensures { result ≡ amount_of body.now }
+fn read_amount(body: &[u8]) -> Result<i32, Status>
+    ensures { result ≡ amount_in body.now }
 {
     let [a, b, c, d] = body else {
         return Err(Status::wrong_length());
     };
     let amount = u32::from_be_bytes([*a, *b, *c, *d]);
-    if amount < 1 || amount > LIMIT {
+    if !(1..=LIMIT).contains(&amount) {
         return Err(Status::wrong_data());
     }
-    Ok(amount)
+    Ok(amount as i32)
 }
 
 impl Purse {
     // The balance, which is asked with no data.
     fn shown(&self, body: &[u8]) -> Result<u32, Status>
-        ensures { gives self.now result ≡ show_balance self.now body.now }
+        ensures { gives self.now four_bytes result ≡ show_balance self.now body.now }
     {
         if !body.is_empty() {
             return Err(Status::wrong_length());
@@ -41,39 +41,19 @@ impl Purse {
         Ok(self.balance())
     }
 
-    // Credits the amount of the data.
-    fn credit(&mut self, body: &[u8]) -> Result<u32, Status>
-        ensures { gives self.new result ≡ credit self.old body.now }
-    {
-        let amount = read_amount(body)?;
-        self.record(amount as i32)
-    }
-
-    // Debits the amount of the data.
-    fn debit(&mut self, body: &[u8]) -> Result<u32, Status>
-        ensures { gives self.new result ≡ debit self.old body.now }
-    {
-        let amount = read_amount(body)?;
-        self.record(-(amount as i32))
-    }
-
     // Runs a command: the balance that it answers, or the status that refuses it.
     fn obey(&mut self, cla: u8, ins: u8, p1: u8, p2: u8, body: &[u8]) -> Result<u32, Status>
-        ensures { gives self.new result ≡ purse_run self.old cla ins p1 p2 body.now }
+        ensures { gives self.new four_bytes result ≡ purse_run self.old cla ins p1 p2 body.now }
     {
         if cla != CLASS {
             return Err(Status::unknown_class());
         }
-        if !matches!(ins, BALANCE | CREDIT | DEBIT) {
-            return Err(Status::unknown_instruction());
-        }
-        if p1 != 0 || p2 != 0 {
-            return Err(Status::wrong_parameters());
-        }
         match ins {
+            BALANCE | CREDIT | DEBIT if p1 != 0 || p2 != 0 => Err(Status::wrong_parameters()),
             BALANCE => self.shown(body),
-            CREDIT => self.credit(body),
-            _ => self.debit(body),
+            CREDIT => self.record(read_amount(body)?),
+            DEBIT => self.record(-read_amount(body)?),
+            _ => Err(Status::unknown_instruction()),
         }
     }
 }

@@ -1,6 +1,6 @@
 ghost use Rattle.std.specs.Prelude.{◌≡◌, ◌≤◌, [], pos, ◌+ℤ◌};
-ghost use Rattle.apps.specs.Purse.{balance, limit, within, move_by, JoiningKeeps, CreditAdds, DebitTakes, RefusalKeeps};
-ghost use Rattle.apps.specs.PurseReplies.{gives};
+ghost use Rattle.apps.specs.Purse.{four_bytes, balance, limit, within, move_by, JoiningKeeps, CreditAdds, DebitTakes, RefusalKeeps};
+ghost use Rattle.apps.specs.Replies.{gives};
 
 use crate::purse::{LIMIT, Purse};
 use apdu::Status;
@@ -40,12 +40,12 @@ impl Purse {
         ensures { result ≡ within (balance self.now +ℤ movement) }
     {
         let balance = i64::from(self.balance()) + i64::from(movement);
-        balance >= 0 && balance <= i64::from(LIMIT)
+        (0..=i64::from(LIMIT)).contains(&balance)
     }
 
     // Records a movement and answers the new balance, if that lies in its limits.
     pub(super) fn record(&mut self, movement: i32) -> Result<u32, Status>
-        ensures { gives self.new result ≡ move_by self.old movement }
+        ensures { gives self.new four_bytes result ≡ move_by self.old movement }
     {
         if !self.allows(movement) {
             return Err(Status::conditions_not_met());

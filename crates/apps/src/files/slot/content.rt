@@ -1,5 +1,6 @@
 ghost use Rattle.std.specs.Prelude.{◌≡◌, ◌≤◌, [], length, IfOk};
-ghost use Rattle.apps.specs.Files.{gives, read_file, update_file, replied};
+ghost use Rattle.apps.specs.Files.{read_file, update_file};
+ghost use Rattle.apps.specs.Replies.{replied, gives};
 ghost use Rattle.apps.specs.FileTables.{file_in};
 
 use crate::files::entry::Entry;
@@ -33,8 +34,7 @@ impl Slot {
         if content.is_empty() {
             return None;
         }
-        let mut bytes = ArrayVec::new();
-        bytes.try_extend_from_slice(content).ok()?;
+        let bytes = ArrayVec::try_from(content).ok()?;
         Some(Slot {
             id: entry.id,
             bytes,

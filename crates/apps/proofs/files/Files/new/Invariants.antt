@@ -1,5 +1,3 @@
-use Rattle.std.proofs.Common.{◌≡◌, map, take, drop, length}
-use Rattle.apps.specs.FileTables.{file_from, all_fit}
 use Rattle.apps.proofs.FileTables.{Filled}
 use Rattle.apps.proofs.files.Files.new.Given as goal
 

@@ -1,4 +1,4 @@
-use Rattle.std.proofs.Common.{◌≡◌, List, get_or, ap, ◌∙◌, sym}
+use Rattle.std.proofs.Common.{◌≡◌, List, get_or, ap, ◌∙◌}
 use Rattle.std.proofs.lemmas.Result.{err_from_is_err_and}
 use Rattle.apdu.specs.Applications.{Reply}
 use Rattle.apps.specs.Files.{File, Shelf, read_file}

@@ -1,6 +1,6 @@
 use Rattle.std.proofs.Common.{List, get_or, ap}
 use Rattle.std.proofs.lemmas.Result.{err_from_is_err_and}
-use Rattle.apps.specs.Files.{File, Shelf}
+use Rattle.apps.specs.Files.{File}
 use Rattle.apps.proofs.FileShelves.{update_err, update_ok}
 use Rattle.apps.proofs.files.Files.update.Goals as goal
 
