@@ -23,7 +23,7 @@ judged bytes room = checked room (command_of bytes)
 
 -- The parts of a command that was read in place.
 abbrev pub parts : Command → spec.Command
-parts c = record { kind = c.case; cla = c.cla; ins = c.ins; p1 = c.p1; p2 = c.p2; body = c.body.now; ne = c.ne }
+parts c = record { kind = c.case; cla = c.header.cla; ins = c.header.ins; p1 = c.header.p1; p2 = c.header.p2; body = c.body.now; ne = c.ne }
 
 -- What a reading of a command says.
 abbrev pub read : Option Command → Option spec.Command

@@ -1,5 +1,7 @@
+use crate::header::Header;
+
 // The four cases of a command: header alone; header and Le; header, Lc and data; header, Lc, data and Le.
-#[derive(Clone, Copy)]
+#[derive(Clone, Copy, Debug, PartialEq, Eq)]
 pub enum Case {
     One,
     Two,
@@ -11,14 +13,11 @@ pub enum Case {
 #[derive(Clone, Copy)]
 pub struct Command<'a> {
     pub case: Case,
-    pub cla: u8,
-    pub ins: u8,
-    pub p1: u8,
-    pub p2: u8,
+    pub header: Header,
     pub body: &'a [u8],
     pub ne: usize,
 }
 
 mod read;
 
-pub use read::{is_inward, is_reserved, judge, read_command};
+pub use read::{judge, read_command, wanted};

@@ -5,12 +5,14 @@
 
 mod application;
 mod command;
+mod header;
 mod refusal;
 mod status;
 #[cfg(test)]
 mod tests;
 
 pub use application::Application;
-pub use command::{Case, Command, is_inward, is_reserved, judge, read_command};
+pub use command::{Case, Command, judge, read_command, wanted};
+pub use header::Header;
 pub use refusal::{Refusal, SettingRefusal};
 pub use status::{Status, is_lawful};

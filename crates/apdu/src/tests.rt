@@ -4,7 +4,7 @@ use crate::command::{judge, read_command};
 fn refusal(bytes: &[u8], room: usize) -> u8 {
     match judge(bytes, room) {
         Ok(_) => 0,
-        Err(e) => e.number(),
+        Err(e) => u8::from(e),
     }
 }
 

@@ -9,7 +9,7 @@ use Rattle.link.specs.Turns.{Gave, gives}
 use Rattle.script.specs.Traces.{character_line, turn_line, turn_text}
 use Rattle.script.specs.declared.trace.Outcome.TheVariants as trace
 use Rattle.wire.specs.declared.traced.Traced.{Traced}
-use Rattle.cardtrace_t0.specs.Traces.{sender_of, character_lines, entry_line}
+use Rattle.cardtrace_t0.specs.Traces.{character_lines, entry_line}
 
 -- A text that opens a memory is its first bytes.
 pub front : (text before after : List ℕ) (n : ℕ) → n ≡ length text → after ≡ opened text before → take n after ≡ text
@@ -51,16 +51,16 @@ wrote_if r items old before after None count n m en ec ea =
 lines_append : (turn : ℕ) (cs ds : List Traced) → character_lines turn (cs ++ ds) ≡ character_lines turn cs ++ character_lines turn ds
 lines_append turn [] ds = refl
 lines_append turn (c ∷ cs) ds =
-    ap (λ (t : List ℕ). character_line turn (sender_of c.by_card) c.byte c.damaged ++ t) (lines_append turn cs ds)
-    ∙ sym (append_assoc (character_line turn (sender_of c.by_card) c.byte c.damaged) (character_lines turn cs) (character_lines turn ds))
+    ap (λ (t : List ℕ). character_line turn c.sender c.byte c.damaged ++ t) (lines_append turn cs ds)
+    ∙ sym (append_assoc (character_line turn c.sender c.byte c.damaged) (character_lines turn cs) (character_lines turn ds))
 
 -- One character more.
 pub lines_more : (turn : ℕ) (cs : List Traced) (i : ℕ) (d : Traced) (items old before : List ℕ) → i < length cs
-    → items ≡ before ++ character_line turn (sender_of (get_or cs i d).by_card) (get_or cs i d).byte (get_or cs i d).damaged
+    → items ≡ before ++ character_line turn (get_or cs i d).sender (get_or cs i d).byte (get_or cs i d).damaged
     → before ≡ old ++ character_lines turn (take i cs)
     → items ≡ old ++ character_lines turn (take (i + 1) cs)
 lines_more turn cs i d items old before h e f =
-    let line : List ℕ = character_line turn (sender_of (get_or cs i d).by_card) (get_or cs i d).byte (get_or cs i d).damaged in
+    let line : List ℕ = character_line turn (get_or cs i d).sender (get_or cs i d).byte (get_or cs i d).damaged in
     e ∙ ap (λ (t : List ℕ). t ++ line) f ∙ append_assoc old (character_lines turn (take i cs)) line
     ∙ ap (λ (t : List ℕ). old ++ (character_lines turn (take i cs) ++ t)) (sym (append-nil line))
     ∙ ap (λ (t : List ℕ). old ++ t) (sym (ap (character_lines turn) (take_more cs i d h) ∙ lines_append turn (take i cs) (get_or cs i d ∷ [])))

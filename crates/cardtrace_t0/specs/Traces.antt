@@ -7,8 +7,8 @@ use Rattle.script.specs.Lines as lines
 use Rattle.script.specs.Scripts.{Script, following}
 use Rattle.script.specs.Traces.{character_line, turn_line, bad_line}
 use Rattle.script.specs.declared.trace.Outcome.TheVariants.{Status, Reset, Refusal}
-use Rattle.script.specs.declared.trace.Sender.{Sender}
-use Rattle.script.specs.declared.trace.Sender.TheVariants.{Terminal, Card}
+use Rattle.wire.specs.declared.traced.Sender.{Sender}
+use Rattle.wire.specs.declared.traced.Sender.TheVariants.{Terminal, Card}
 use Rattle.wire.specs.declared.traced.Traced.{Traced}
 use Rattle.cardtrace_t0.specs.Cards.{link_said}
 
@@ -16,14 +16,10 @@ use Rattle.cardtrace_t0.specs.Cards.{link_said}
 abbrev pub free : List ℕ
 free = replicate 256 0
 
--- Who sent a character.
-abbrev pub sender_of : Bool → Sender
-sender_of by_card = cond by_card Card Terminal
-
 -- The lines of the characters of a turn.
 abbrev pub character_lines : ℕ → List Traced → List ℕ
 character_lines turn [] = []
-character_lines turn (c ∷ cs) = character_line turn (sender_of c.by_card) c.byte c.damaged ++ character_lines turn cs
+character_lines turn (c ∷ cs) = character_line turn c.sender c.byte c.damaged ++ character_lines turn cs
 
 -- The line of a turn, by what it gave.
 abbrev pub entry_line : ℕ → ℕ → Gave → List ℕ

@@ -13,14 +13,7 @@ pub fn run_command<A: Application>(
     ensures { Answers A.Application.means (A.Application.means.state app.old) (parts command.entry) answer.old (A.Application.means.state app.new) answer.new result }
 {
     let mut buffer = [0u8; 256];
-    let (count, status) = app.run(
-        command.cla,
-        command.ins,
-        command.p1,
-        command.p2,
-        command.body,
-        &mut buffer,
-    );
+    let (count, status) = app.run(command.header, command.body, &mut buffer);
     let n = count.min(command.ne).min(answer.len());
     answer[0..n].copy_from_slice(&buffer[0..n]);
     (n, status)

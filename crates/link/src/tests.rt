@@ -8,10 +8,10 @@ use crate::link::Link;
 use crate::row::Row;
 use crate::running::run;
 use crate::turn::Turn;
-use apdu::{Application, Refusal, Status};
+use apdu::{Application, Header, Refusal, Status};
 use std::process::Abort;
 use std::test::Fail;
-use wire::{Record, Traced};
+use wire::{Record, Sender, Traced};
 
 // Counts its runs, and answers its count and 7 with status 9000; a reset begins at 0.
 #[derive(Drop)]
@@ -26,15 +26,7 @@ impl Application for Counter {
 
     ghost lawful = { Prim.search rules };
 
-    fn run(
-        &mut self,
-        _cla: u8,
-        _ins: u8,
-        _p1: u8,
-        _p2: u8,
-        _body: &[u8],
-        buffer: &mut [u8; 256],
-    ) -> (usize, Status) {
+    fn run(&mut self, _header: Header, _body: &[u8], buffer: &mut [u8; 256]) -> (usize, Status) {
         buffer[0..2].copy_from_slice(&[self.count, 7]);
         self.count = self.count.wrapping_add(1);
         (2, Status::done())
@@ -57,7 +49,7 @@ const NO_ROW: Row = Row {
 };
 
 const NO_CHARACTER: Traced = Traced {
-    by_card: false,
+    sender: Sender::Terminal,
     byte: 0,
     damaged: false,
 };
@@ -75,14 +67,14 @@ fn turn(tag: u8, start: usize, length: usize) -> Turn {
 fn sent(res: Result<(usize, Status), Refusal>) -> u8 {
     match res {
         Ok(_) => 0,
-        Err(e) => e.number(),
+        Err(e) => u8::from(e),
     }
 }
 
 fn was_reset(res: Result<(), Refusal>) -> u8 {
     match res {
         Ok(_) => 0,
-        Err(e) => e.number(),
+        Err(e) => u8::from(e),
     }
 }
 

@@ -1,7 +1,7 @@
 use Rattle.std.proofs.Common.{ℕ, ◌^◌, ◌<◌, ◌≤◌, Bool, List, length, decimal, arith}
 use Rattle.std.proofs.lemmas.Fmt.{length-decimal-le}
 use Rattle.std.proofs.lemmas.List.{length-append}
-use Rattle.script.specs.declared.trace.Sender.{Sender}
+use Rattle.wire.specs.declared.traced.Sender.{Sender}
 use Rattle.script.specs.declared.trace.Outcome.{Outcome}
 use Rattle.script.specs.Traces.{character_line, outcome_text, turn_line, bad_line}
 use Rattle.script.proofs.Lengths.{length_hex, byte_length}

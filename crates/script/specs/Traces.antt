@@ -1,6 +1,6 @@
 use Rattle.std.specs.Prelude.{ℕ, Bool, cond, List, [], ◌∷◌, ◌++◌, length, Some, None, codes, decimal, Option, nat_le}
-use Rattle.script.specs.declared.trace.Sender.{Sender}
-use Rattle.script.specs.declared.trace.Sender.TheVariants.{Terminal, Card}
+use Rattle.wire.specs.declared.traced.Sender.{Sender}
+use Rattle.wire.specs.declared.traced.Sender.TheVariants.{Terminal, Card}
 use Rattle.script.specs.declared.trace.Outcome.{Outcome}
 use Rattle.script.specs.declared.trace.Outcome.TheVariants.{Status, Reset, Refusal}
 use Rattle.script.specs.Hex.{hex}

@@ -1,10 +1,3 @@
-// Who sent a character.
-#[derive(Clone, Copy)]
-pub enum Sender {
-    Terminal,
-    Card,
-}
-
 // How a turn ended: with a status, by a reset, or with the number of a refusal.
 #[derive(Clone, Copy)]
 pub enum Outcome {
@@ -16,3 +9,4 @@ pub enum Outcome {
 mod format;
 
 pub use format::{LINE_ROOM, bad_line, character_line, turn_line};
+pub use wire::Sender;

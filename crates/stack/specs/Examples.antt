@@ -13,6 +13,8 @@ use Rattle.t0.specs.declared.settings.Settings.{Settings}
 use Rattle.t0.specs.declared.settings.Style.TheVariants.{Whole}
 use Rattle.t0link.specs.Links.{linked_by}
 use Rattle.wire.specs.declared.traced.Traced.{Traced}
+use Rattle.wire.specs.declared.traced.Sender.{Sender}
+use Rattle.wire.specs.declared.traced.Sender.TheVariants as by
 
 -- 00B0000000 and 00D600000000.
 abbrev pub read_all : List ℕ
@@ -36,9 +38,9 @@ abbrev pub one_cent : List ℕ
 one_cent = 0x00 ∷ (0x00 ∷ (0x00 ∷ (0x01 ∷ [])))
 
 -- Undamaged characters of the terminal and of the card.
-abbrev pub says : Bool → List ℕ → List Traced
-says by_card [] = []
-says by_card (b ∷ bs) = record { by_card = by_card; byte = b; damaged = false } ∷ says by_card bs
+abbrev pub says : Sender → List ℕ → List Traced
+says sender [] = []
+says sender (b ∷ bs) = record { sender = sender; byte = b; damaged = false } ∷ says sender bs
 
 -- File 2F01, which holds 41 42, is current.
 abbrev pub selected : Shelf
@@ -74,8 +76,8 @@ pub record WorkedExamples : Type 0 where
   pub debit_below_zero : (ms : List ℤ) → balance ms ≡ pos 500 → (debited (after_debit ms five_hundred) one_cent).status ≡ conditions_not_met
   -- File 41 42 read over T=0 with Le 00 gives 6C 02, then, to the header with 02, B0 41 42 90 00.
   pub read_over_t0 : whole_trace read_turn
-      ≡ says false read_all
-      ++ (says true (0x6C ∷ (0x02 ∷ []))
-      ++ (says false (0x00 ∷ (0xB0 ∷ (0x00 ∷ (0x00 ∷ (0x02 ∷ [])))))
-      ++ says true (0xB0 ∷ (0x41 ∷ (0x42 ∷ (0x90 ∷ (0x00 ∷ [])))))))
+      ≡ says by.Terminal read_all
+      ++ (says by.Card (0x6C ∷ (0x02 ∷ []))
+      ++ (says by.Terminal (0x00 ∷ (0xB0 ∷ (0x00 ∷ (0x00 ∷ (0x02 ∷ [])))))
+      ++ says by.Card (0xB0 ∷ (0x41 ∷ (0x42 ∷ (0x90 ∷ (0x00 ∷ [])))))))
   pub read_entry : journal read_turn ≡ record { program = 1; gave = gives (0x41 ∷ (0x42 ∷ [])) done } ∷ []

@@ -6,7 +6,7 @@ use std::process::Abort;
 use std::test::Fail;
 use t0::{Settings, Style};
 use t0link::T0Link;
-use wire::{MarkedLine, Record, Traced};
+use wire::{MarkedLine, Record, Sender, Traced};
 
 const CREDIT: &[u8] = b"\x80\x52\x00\x00\x04\x00\x00\x01\xF4\x00";
 
@@ -15,7 +15,7 @@ const DEBIT: &[u8] = b"\x80\x54\x00\x00\x04\x00\x00\x00\x64\x04";
 const BALANCE: &[u8] = b"\x80\x50\x00\x00\x00";
 
 const BLANK: Traced = Traced {
-    by_card: false,
+    sender: Sender::Terminal,
     byte: 0,
     damaged: false,
 };
@@ -28,7 +28,7 @@ fn gave(r: Result<(usize, Status), Refusal>, answer: &[u8; 256]) -> u64 {
             let front = u32::from_be_bytes([answer[0], answer[1], answer[2], answer[3]]);
             status * 4_294_967_296 + u64::from(front)
         }
-        Err(e) => u64::from(e.number()),
+        Err(e) => u64::from(u8::from(e)),
     }
 }
 

@@ -4,13 +4,13 @@ use link::{DirectCard, Link};
 use std::test::Fail;
 use t0::{Settings, Style};
 use t0link::T0Link;
-use wire::{MarkedLine, Record, Traced};
+use wire::{MarkedLine, Record, Sender, Traced};
 
 // The status as a number, or the number of the refusal.
 fn outcome(r: Result<(usize, Status), Refusal>) -> u32 {
     match r {
         Ok(p) => u32::from(p.1.sw1()) * 256 + u32::from(p.1.sw2()),
-        Err(e) => u32::from(e.number()),
+        Err(e) => u32::from(u8::from(e)),
     }
 }
 
@@ -92,7 +92,7 @@ fn purse_over_t0_is_debited_once(rt: HostRuntime) -> Result<(), Fail> {
     let mut link = T0Link::new(settings, Purse::new(), line);
     let mut answer = [0u8; 256];
     let mut memory = [Traced {
-        by_card: false,
+        sender: Sender::Terminal,
         byte: 0,
         damaged: false,
     }; 400];

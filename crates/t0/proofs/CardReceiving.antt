@@ -2,7 +2,7 @@ use Rattle.std.proofs.Common.{◌≡◌, ℕ, zero, suc, ◌+◌, ◌<◌, true,
 use Rattle.std.proofs.lemmas.List.{length-take, length_push, take_more_set}
 use Rattle.std.proofs.lemmas.Bool.{cond-true, cond-false, le-leb, lt-leb, lt-ltb, or_left, true≢false, false≢true}
 use Rattle.apdu.specs.Applications.{App}
-use Rattle.t0.specs.declared.header.Header.{Header}
+use Rattle.apdu.specs.declared.header.Header.{Header}
 use Rattle.t0.specs.declared.settings.Settings.{Settings}
 use Rattle.t0.specs.declared.card.Card.{Card as Value}
 use Rattle.t0.specs.declared.card.Receiving.{Receiving}

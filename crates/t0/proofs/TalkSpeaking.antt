@@ -1,4 +1,5 @@
 use Rattle.std.proofs.Common.{◌≡◌, ℕ, Bool, true, false, cond, List, [], ◌∷◌, get_or, Some, None, sym, refl, ap, ◌∙◌, subst}
+use Rattle.wire.specs.declared.traced.Sender.TheVariants as sender
 use Rattle.apdu.specs.Applications.{App}
 use Rattle.wire.specs.Lines.{Damage}
 use Rattle.wire.specs.declared.record.Record.{Record}
@@ -41,7 +42,7 @@ module _ {V : Type 0} (app : App V) (s : Settings) where
 
   module _ (j : Joined app.State) (c : Card app.State) (b : ℕ) (d : Damage) (before after : Record Traced) (ec : c ≡ spoken j.card) where
     abbrev pub t : Delivered
-    t = tried j.coming true b 4
+    t = tried j.coming sender.Card b 4
 
     abbrev by : Bool → Spoken app.State
     by x = record {

@@ -3,6 +3,7 @@ use mathlib.Core.Path.{fun_ext}
 use Rattle.wire.specs.Lines.{Damage, later, carried}
 use Rattle.wire.specs.Records.{Grew}
 use Rattle.wire.specs.declared.record.Record.{Record}
+use Rattle.wire.specs.declared.traced.Sender.{Sender}
 use Rattle.wire.specs.declared.traced.Traced.{Traced}
 use Rattle.wire.proofs.Growing.{grew_then}
 use Rattle.t0.specs.Carrying.{Carries}
@@ -13,14 +14,14 @@ abbrev pub after : List Traced → Delivered → Delivered
 after cs t = record { arrived = t.arrived; characters = cs ++ t.characters; coming = t.coming }
 
 -- A try that is not damaged is the last.
-pub tried_hit : (d : Damage) (by : Bool) (b i : ℕ) → i < 4 → d 0 ≡ false → tried d by b (4 - i) ≡ record { arrived = true; characters = traced by b false ∷ []; coming = later d }
+pub tried_hit : (d : Damage) (by : Sender) (b i : ℕ) → i < 4 → d 0 ≡ false → tried d by b (4 - i) ≡ record { arrived = true; characters = traced by b false ∷ []; coming = later d }
 tried_hit d by b i l e = ap (tried d by b) (let z : 4 - i ≡ suc (3 - i) = omega arith in z) ∙ ap (λ (x : Bool). cond x again (record { arrived = true; characters = traced by b false ∷ []; coming = later d })) e
   where
     again : Delivered
     again = after (traced by b true ∷ []) (tried (later d) by b (3 - i))
 
 -- A damaged one is followed by the others, if any is left.
-pub tried_miss : (d f : Damage) (by : Bool) (b i : ℕ) → i < 4 → d 0 ≡ true → ((k : ℕ) → f k ≡ d (k + 1))
+pub tried_miss : (d f : Damage) (by : Sender) (b i : ℕ) → i < 4 → d 0 ≡ true → ((k : ℕ) → f k ≡ d (k + 1))
     → tried d by b (4 - i) ≡ after (traced by b true ∷ []) (tried f by b (4 - (i + 1)))
 tried_miss d f by b i l e h =
     ap (tried d by b) (let z : 4 - i ≡ suc (3 - i) = omega arith in z)
@@ -49,7 +50,7 @@ flipped true false e = sym e
 flipped false true e = sym e
 flipped false false e = refl
 
-module _ (full : Delivered) (d f : Damage) (by : Bool) (b i : ℕ) (cs : List Traced) (before between beyond : Record Traced) (r : Option ℕ) (none : Bool)
+module _ (full : Delivered) (d f : Damage) (by : Sender) (b i : ℕ) (cs : List Traced) (before between beyond : Record Traced) (r : Option ℕ) (none : Bool)
     (small : i < 4) (gave : r ≡ carried (d 0) b) (left : (k : ℕ) → f k ≡ d (k + 1))
     (so_far : Grew before between cs) (noted : Grew between beyond (traced by b none ∷ [])) (is : is_some r ≡ not none)
     (inv : full ≡ after cs (tried d by b (4 - i))) where

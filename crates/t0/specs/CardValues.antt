@@ -1,6 +1,6 @@
 use Rattle.std.specs.Prelude.{ℕ, ◌+◌, Bool, true, false, cond, ◌||◌, List, [], ◌∷◌, ◌++◌, length, take, drop, replicate, nat_le, nat_lt, slice_index}
 use Rattle.apdu.specs.Applications.{App, Outcome, Reply}
-use Rattle.t0.specs.declared.header.Header.{Header}
+use Rattle.apdu.specs.declared.header.Header.{Header}
 use Rattle.t0.specs.declared.settings.Settings.{Settings}
 use Rattle.t0.specs.declared.settings.Style.{Style}
 use Rattle.t0.specs.declared.settings.Style.TheVariants.{Whole, Bytewise}

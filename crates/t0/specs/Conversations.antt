@@ -3,6 +3,7 @@ use Rattle.apdu.specs.Applications.{App}
 use Rattle.apdu.specs.Statuses as statuses
 use Rattle.apdu.specs.declared.status.Status.{Status}
 use Rattle.wire.specs.Lines.{Damage}
+use Rattle.wire.specs.declared.traced.Sender.TheVariants as by
 use Rattle.wire.specs.declared.traced.Traced.{Traced}
 use Rattle.t0.specs.declared.settings.Settings.{Settings}
 use Rattle.t0.specs.declared.terminal.Waiting.{Waiting}
@@ -64,7 +65,7 @@ module _ {V : Type 0} (app : App V) (s : Settings) (body : List ℕ) where
   -- The terminal sends a character, and the card sees it if it arrives.
   abbrev pub terminal_speaks : Joined app.State → ℕ → Spoken app.State
   terminal_speaks j b =
-      let t = sent_once j.coming (record { card = false; byte = b }) in
+      let t = sent_once j.coming (record { sender = by.Terminal; byte = b }) in
       record {
         characters = t.characters;
         after =
@@ -86,7 +87,7 @@ module _ {V : Type 0} (app : App V) (s : Settings) (body : List ℕ) where
   abbrev pub card_speaks : Joined app.State → List ℕ → Spoken app.State
   card_speaks j [] = record { characters = []; after = off (ended broken j) }
   card_speaks j (b ∷ _) =
-      let t = sent_once j.coming (record { card = true; byte = b }) in
+      let t = sent_once j.coming (record { sender = by.Card; byte = b }) in
       record {
         characters = t.characters;
         after =

@@ -1,5 +1,6 @@
 use Rattle.std.specs.Prelude.{◌≡◌, ℕ, zero, suc, ◌+◌, Bool, true, false, cond, List, [], ◌∷◌, ◌++◌, ◌==◌}
 use Rattle.wire.specs.Lines.{Damage, later}
+use Rattle.wire.specs.declared.traced.Sender.{Sender}
 use Rattle.wire.specs.declared.traced.Traced.{Traced}
 use Rattle.t0.specs.Dialogues.{Word}
 
@@ -9,21 +10,21 @@ pub record Delivered : Type 0 where
   pub characters : List Traced
   pub coming : Damage
 
-abbrev pub traced : Bool → ℕ → Bool → Traced
-traced card b x = record { by_card = card; byte = b; damaged = x }
+abbrev pub traced : Sender → ℕ → Bool → Traced
+traced sender b x = record { sender = sender; byte = b; damaged = x }
 
 -- A character is sent until it arrives undamaged, at most as many times as given.
-abbrev pub tried : Damage → Bool → ℕ → ℕ → Delivered
-tried d card b zero = record { arrived = false; characters = []; coming = d }
-tried d card b (suc left) =
+abbrev pub tried : Damage → Sender → ℕ → ℕ → Delivered
+tried d sender b zero = record { arrived = false; characters = []; coming = d }
+tried d sender b (suc left) =
     cond (d 0)
-    (let rest = tried (later d) card b left in
-    record { arrived = rest.arrived; characters = traced card b true ∷ rest.characters; coming = rest.coming })
-    (record { arrived = true; characters = traced card b false ∷ []; coming = later d })
+    (let rest = tried (later d) sender b left in
+    record { arrived = rest.arrived; characters = traced sender b true ∷ rest.characters; coming = rest.coming })
+    (record { arrived = true; characters = traced sender b false ∷ []; coming = later d })
 
 -- A character has four tries.
 abbrev pub sent_once : Damage → Word → Delivered
-sent_once d w = tried d w.card w.byte 4
+sent_once d w = tried d w.sender w.byte 4
 
 -- One delivery after another: the second only if the first arrived.
 abbrev pub then : Delivered → Delivered → Delivered

@@ -1,7 +1,9 @@
 use Rattle.std.specs.Prelude.{ℕ, min, Bool, true, false, cond, List, [], ◌∷◌, ◌++◌, length, take, ◌==◌, nat_le}
 use Rattle.apdu.specs.Applications.{Reply}
 use Rattle.apdu.specs.Commands.{Command, inward}
-use Rattle.t0.specs.declared.header.Header.{Header}
+use Rattle.wire.specs.declared.traced.Sender.{Sender}
+use Rattle.wire.specs.declared.traced.Sender.TheVariants as by
+use Rattle.apdu.specs.declared.header.Header.{Header}
 use Rattle.t0.specs.declared.settings.Settings.{Settings}
 use Rattle.t0.specs.declared.settings.Style.{Style}
 use Rattle.t0.specs.declared.settings.Style.TheVariants.{Whole, Bytewise}
@@ -9,16 +11,16 @@ use Rattle.t0.specs.Procedures.{header, as_p3, get_response, mover, procedure, m
 
 -- A character of a dialogue: its sender, the card or the terminal, and its byte.
 pub record Word : Type 0 where
-  pub card : Bool
+  pub sender : Sender
   pub byte : ℕ
 
 abbrev pub from_terminal : List ℕ → List Word
 from_terminal [] = []
-from_terminal (b ∷ bs) = record { card = false; byte = b } ∷ from_terminal bs
+from_terminal (b ∷ bs) = record { sender = by.Terminal; byte = b } ∷ from_terminal bs
 
 abbrev pub from_card : List ℕ → List Word
 from_card [] = []
-from_card (b ∷ bs) = record { card = true; byte = b } ∷ from_card bs
+from_card (b ∷ bs) = record { sender = by.Card; byte = b } ∷ from_card bs
 
 -- Data that the terminal moves in, one byte after each procedure byte.
 abbrev pub one_by_one_in : Settings → ℕ → List ℕ → List Word

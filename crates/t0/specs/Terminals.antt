@@ -2,7 +2,7 @@ use Rattle.std.specs.Prelude.{ℕ, ◌+◌, ◌-◌, min, Bool, false, cond, ◌
 use Rattle.apdu.specs.Commands.{Command, inward, wanted}
 use Rattle.apdu.specs.Statuses.{status_of}
 use Rattle.apdu.specs.declared.status.Status.{Status}
-use Rattle.t0.specs.declared.header.Header.{Header}
+use Rattle.apdu.specs.declared.header.Header.{Header}
 use Rattle.t0.specs.declared.terminal.Kind.{Kind}
 use Rattle.t0.specs.declared.terminal.Kind.TheVariants.{Inward, Outward, Repeated, Response}
 use Rattle.t0.specs.declared.terminal.Phase.{Phase}

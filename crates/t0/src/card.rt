@@ -1,8 +1,7 @@
 ghost use Rattle.std.specs.Prelude.{◌≡◌, ◌<◌, length};
 
-use crate::header::Header;
 use crate::settings::Settings;
-use apdu::Status;
+use apdu::{Header, Status};
 
 // Data on their way in: the header of their command, Lc, and how many bytes have come, which are not all yet.
 #[derive(Clone, Copy)]

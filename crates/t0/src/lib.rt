@@ -4,13 +4,12 @@
 
 mod card;
 mod carry;
-mod header;
 mod settings;
 mod talk;
 mod terminal;
 
+pub use apdu::Header;
 pub use card::Card;
-pub use header::Header;
 pub use settings::{Settings, Style};
 pub use talk::{Settled, converse};
 pub use terminal::{

@@ -1,5 +1,4 @@
-use crate::header::Header;
-use apdu::{Refusal, Status};
+use apdu::{Header, Refusal, Status};
 
 // What a header that was sent asks for: data inward; an answer outward; the answer of an outward command whose header is
 // repeated after 6C; the answer that 61 left held.

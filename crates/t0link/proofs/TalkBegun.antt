@@ -3,7 +3,7 @@ use Rattle.std.proofs.lemmas.Bool.{ne_eqb, ltb-true, ltb-false, le-leb, lt-ltb, 
 use Rattle.std.proofs.lemmas.List.{nil_from_length}
 use Rattle.apdu.specs.Applications.{App, Outcome, opened}
 use Rattle.apdu.specs.Commands.{Command, reserved, inward, wanted}
-use Rattle.t0.specs.declared.header.Header.{Header}
+use Rattle.apdu.specs.declared.header.Header.{Header}
 use Rattle.t0.specs.declared.settings.Settings.{Settings}
 use Rattle.t0.specs.Procedures.{mover, procedure, as_p3}
 use Rattle.t0.specs.Cards.{Held, nothing, by61, by6C, at_rest, is_get_response, taking, runs_inward, runs_outward, answered, begun, headed}

@@ -3,7 +3,7 @@ use Rattle.std.proofs.lemmas.Bool.{eq-eqb, lt-ltb, eqb-true, eqb-false, leb-true
 use Rattle.std.proofs.lemmas.List.{take_all, length-take-le}
 use Rattle.apdu.specs.Applications.{App, Outcome, does}
 use Rattle.apdu.specs.Commands.{Command, inward}
-use Rattle.t0.specs.declared.header.Header.{Header}
+use Rattle.apdu.specs.declared.header.Header.{Header}
 use Rattle.t0.specs.declared.settings.Settings.{Settings}
 use Rattle.t0.specs.declared.terminal.Kind.TheVariants.{Outward, Repeated}
 use Rattle.t0.specs.declared.terminal.Phase.TheVariants.{Procedure, Closing}

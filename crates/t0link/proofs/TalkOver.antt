@@ -14,6 +14,7 @@ use Rattle.t0.specs.Cards.{Card, spoken}
 use Rattle.t0.specs.Terminals.{wants, hears}
 use Rattle.t0.specs.Conversations.{lost, Talked, before, After, on, off, Spoken, by_step, card_speaks, by_want, speaks, talk}
 use Rattle.t0link.proofs.TalkSteps.{Pair, Place, goes, stops, Turn, after_step, card_turn, wanted_turn, turn, Says, none, more, join, talked}
+use Rattle.wire.specs.declared.traced.Sender.TheVariants as by
 
 -- Where a conversation stands, over a line.
 abbrev lifted : {S : Type 0} → Damage → Place S → After S
@@ -50,10 +51,10 @@ module _ {V : Type 0} (app : App V) (s : Settings) (body : List ℕ) where
   card_crosses j d (b ∷ bs) = (spoken j.card, refl, crossed)
     where
       t : Delivered
-      t = sent_once d (record { card = true; byte = b })
+      t = sent_once d (record { sender = by.Card; byte = b })
 
       crossed : card_speaks app s body (join app s body j d) (b ∷ bs)
-          ≡ outcome (sent_once d (record { card = true; byte = b })) (after_step (spoken j.card) j.staged b (hears j.terminal j.terminal.phase b)) (spoken j.card) j.staged
+          ≡ outcome (sent_once d (record { sender = by.Card; byte = b })) (after_step (spoken j.card) j.staged b (hears j.terminal j.terminal.phase b)) (spoken j.card) j.staged
       crossed =
           ap (λ (a : After app.State). record { characters = t.characters; after = cond t.arrived a (off (record { end = lost; card = spoken j.card; staged = j.staged; coming = t.coming; characters = [] })) })
           (heard (spoken j.card) j.staged t.coming b (hears j.terminal j.terminal.phase b))

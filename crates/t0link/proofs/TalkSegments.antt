@@ -1,6 +1,6 @@
 use Rattle.std.proofs.Common.{◌≡◌, ℕ, zero, suc, ◌-◌, true, List, [], ◌∷◌, ◌++◌, replicate, Some, sym, refl, ap, ◌∙◌, subst, arith}
 use Rattle.apdu.specs.Applications.{App}
-use Rattle.t0.specs.declared.header.Header.{Header}
+use Rattle.apdu.specs.declared.header.Header.{Header}
 use Rattle.t0.specs.declared.settings.Settings.{Settings}
 use Rattle.t0.specs.declared.terminal.Kind.{Kind}
 use Rattle.t0.specs.declared.terminal.Phase.{Phase}
@@ -13,6 +13,7 @@ use Rattle.t0.specs.Dialogues.{Word, from_terminal, from_card}
 use Rattle.t0.specs.Cards.{Card, Held, Stage, at_rest, headed}
 use Rattle.t0.specs.Terminals.{heading_for, at_phase, procedure_byte, closed, wants, hears}
 use Rattle.t0link.proofs.TalkSteps.{Place, goes, after_step, wanted_turn, Says, none, more, says_then}
+use Rattle.wire.specs.declared.traced.Sender.TheVariants as by
 
 -- A terminal with so many bytes due, in a phase.
 abbrev pub due_at : Waiting → ℕ → Phase → Waiting
@@ -25,7 +26,7 @@ abbrev pub ends : {S : Type 0} → Waiting → Card S → List ℕ → Place S
 ends w c staged = goes (record { terminal = w; card = c; staged = staged })
 
 abbrev pub by_card : ℕ → Word
-by_card b = record { card = true; byte = b }
+by_card b = record { sender = by.Card; byte = b }
 
 pub less_one : (n : ℕ) → suc n - 1 ≡ n
 less_one n = omega arith

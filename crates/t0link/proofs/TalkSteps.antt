@@ -11,6 +11,7 @@ use Rattle.t0.specs.Dialogues.{Word}
 use Rattle.t0.specs.Cards.{Card, received, spoken}
 use Rattle.t0.specs.Terminals.{wants, has_sent, hears}
 use Rattle.t0.specs.Conversations.{Joined, End, done, held, broken, Talked, talk}
+use Rattle.wire.specs.declared.traced.Sender.TheVariants as by
 
 -- The two ends without a line between them: the terminal, the card, and the answer bytes in their places.
 pub record Pair (S : Type 0) : Type 0 where
@@ -39,7 +40,7 @@ abbrev pub card_turn : {S : Type 0} → Pair S → List ℕ → Option (Turn S)
 card_turn j [] = None
 card_turn j (b ∷ _) =
     Some (record {
-      word = record { card = true; byte = b };
+      word = record { sender = by.Card; byte = b };
       next = after_step (spoken j.card) j.staged b (hears j.terminal j.terminal.phase b);
     })
 
@@ -47,7 +48,7 @@ module _ {V : Type 0} (app : App V) (s : Settings) (body : List ℕ) where
   abbrev pub terminal_turn : Pair app.State → ℕ → Option (Turn app.State)
   terminal_turn j b =
       Some (record {
-        word = record { card = false; byte = b };
+        word = record { sender = by.Terminal; byte = b };
         next = goes (record { terminal = has_sent j.terminal j.terminal.phase; card = received app s j.card b; staged = j.staged });
       })
 

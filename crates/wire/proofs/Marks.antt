@@ -1,34 +1,10 @@
-use Rattle.std.proofs.Common.{◌≡◌, ℕ, zero, suc, ◌+◌, ◌-◌, ◌<◌, ◌≤◌, min, Bool, true, false, cond, ◌&&◌, ◌||◌, eqb, ltb, leb, List, [], ◌∷◌, ◌++◌, length, get_or, take, drop, replicate, Some, None, Option, sym, refl, ap, ◌∙◌, subst, ⊎_elim, arith, length-take, get_or-take, take_at, le-ltb, lt-ltb, eq-eqb, ne_eqb, le-leb}
+use Rattle.std.proofs.Common.{◌≡◌, ℕ, zero, suc, ◌+◌, ◌-◌, ◌<◌, ◌≤◌, min, Bool, true, false, cond, ◌&&◌, ◌||◌, ltb, leb, List, [], ◌∷◌, ◌++◌, length, get_or, take, drop, replicate, Some, None, Option, sym, refl, ap, ◌∙◌, subst, ⊎_elim, arith, length-take, get_or-take, take_at, ne_eqb, le-leb}
 use native.Mathlib.Nat.{sub-zero}
-use Rattle.std.proofs.lemmas.List.{take_more, take_all}
+use Rattle.std.proofs.lemmas.List.{take_all}
 use Rattle.std.proofs.lemmas.Bool.{cases_lt}
+use Rattle.std.specs.List.{IsAllAdjacentAnswer}
 use Rattle.apdu.specs.Applications.{opened}
 use Rattle.wire.specs.MarkedLines.{rising, is_marked, are_marks}
-
-or_none : (a b : Bool) → (a || b) ≡ false → (a ≡ false) × (b ≡ false)
-or_none true b e = absurd (let w : ◌≡◌ {A = ℕ} 0 1 = cc in omega arith)
-or_none false b e = (refl, e)
-
-or_right : (a : Bool) {b : Bool} → b ≡ true → (a || b) ≡ true
-or_right true f = refl
-or_right false f = f
-
-marked_append : (xs ys : List ℕ) (p : ℕ) → is_marked xs p ≡ false → is_marked ys p ≡ false → is_marked (xs ++ ys) p ≡ false
-marked_append [] ys p e f = f
-marked_append (x ∷ xs) ys p e f =
-    let both = or_none (eqb x p) (is_marked xs p) e in
-    ap (λ (t : Bool). t || is_marked (xs ++ ys) p) both.0 ∙ marked_append xs ys p both.1 f
-
--- One position more is not marked.
-pub marked_more : (xs : List ℕ) (i p : ℕ) → i < length xs → is_marked (take i xs) p ≡ false → (get_or xs i 0 ≡ p → ⊥) → is_marked (take (i + 1) xs) p ≡ false
-marked_more xs i p h e n =
-    ap (λ (l : List ℕ). is_marked l p) (take_more xs i 0 h) ∙ marked_append (take i xs) (get_or xs i 0 ∷ []) p e (ap (λ (t : Bool). t || false) (ne_eqb (get_or xs i 0) p n))
-
--- A position that stands in the list is marked.
-pub marked_at : (xs : List ℕ) (i p : ℕ) → i < length xs → get_or xs i 0 ≡ p → is_marked xs p ≡ true
-marked_at [] i p h e = absurd (let z : ⊥ = omega arith in z)
-marked_at (x ∷ xs) zero p h e = ap (λ (t : Bool). t || is_marked xs p) (eq-eqb x p e)
-marked_at (x ∷ xs) (suc i) p h e = or_right (eqb x p) (marked_at xs i p (let z : i < length xs = omega arith in z) e)
 
 -- The marks of the line's places that hold marks.
 pub marks_low : (xs : List ℕ) (n : ℕ) → ((i : ℕ) → get_or xs i 0 < 65536) → (i : ℕ) → i < length (take n xs) → get_or (take n xs) i 0 < 65536
@@ -52,40 +28,26 @@ and_none : (a : Bool) {b : Bool} → b ≡ false → (a && b) ≡ false
 and_none true f = f
 and_none false f = refl
 
--- Positions that rise, and one more above the last of them, rise.
-rising_push : (xs : List ℕ) (y : ℕ) → rising xs ≡ true → (0 < length xs → get_or xs (length xs - 1) 0 < y) → rising (xs ++ (y ∷ [])) ≡ true
-rising_push [] y e h = refl
-rising_push (x ∷ []) y e h = and_both (ltb x y) true (lt-ltb x y (h (let z : 0 < length (x ∷ []) = omega arith in z))) refl
-rising_push (x ∷ (z ∷ xs)) y e h =
-    let both = and_parts (ltb x z) (rising (z ∷ xs)) e in
-    let far : get_or (x ∷ (z ∷ xs)) (length (x ∷ (z ∷ xs)) - 1) 0 ≡ get_or (z ∷ xs) (length (z ∷ xs) - 1) 0 = ap (λ (n : ℕ). get_or (x ∷ (z ∷ xs)) n 0) (let w : length (x ∷ (z ∷ xs)) - 1 ≡ suc (length (z ∷ xs) - 1) = omega arith in w) in
-    and_both (ltb x z) (rising ((z ∷ xs) ++ (y ∷ []))) both.0 (rising_push (z ∷ xs) y both.1 (λ l. rw far at (h (let w : 0 < length (x ∷ (z ∷ xs)) = omega arith in w))))
+rising_up : (xs : List ℕ) → ((k d : ℕ) → k + 1 < length xs → true ≡ ltb (get_or xs k d) (get_or xs (k + 1) d)) → rising xs ≡ true
+rising_up [] h = refl
+rising_up (x ∷ []) h = refl
+rising_up (x ∷ (y ∷ xs)) h =
+    and_both (ltb x y) (rising (y ∷ xs)) (sym (h 0 0 (let z : 0 + 1 < length (x ∷ (y ∷ xs)) = omega arith in z)))
+    (rising_up (y ∷ xs) (λ k d l. let e : suc k + 1 ≡ suc (k + 1) = omega arith in
+    rw e at (h (suc k) d (let z : suc k + 1 < length (x ∷ (y ∷ xs)) = omega arith in z))))
 
--- One position more, above the one before it, rises.
-pub rising_more : (xs : List ℕ) (i : ℕ) → 0 < i → i < length xs → rising (take i xs) ≡ true → get_or xs (i - 1) 0 < get_or xs i 0 → rising (take (i + 1) xs) ≡ true
-rising_more xs i p h e l =
-    ap rising (take_more xs i 0 h) ∙ rising_push (take i xs) (get_or xs i 0) e (λ _. last)
-  where
-    long : length (take i xs) ≡ i
-    long = rw length-take (omega arith)
+rising_not : (xs : List ℕ) (k : ℕ) → k + 1 < length xs → ((d : ℕ) → false ≡ ltb (get_or xs k d) (get_or xs (k + 1) d)) → rising xs ≡ false
+rising_not [] k l h = absurd (let z : ⊥ = omega arith in z)
+rising_not (x ∷ []) k l h = absurd (let z : ⊥ = omega arith in z)
+rising_not (x ∷ (y ∷ xs)) zero l h = ap (λ (t : Bool). t && rising (y ∷ xs)) (sym (h 0))
+rising_not (x ∷ (y ∷ xs)) (suc k) l h =
+    and_none (ltb x y) (rising_not (y ∷ xs) k (let z : k + 1 < length (y ∷ xs) = omega arith in z)
+    (λ d. let e : suc k + 1 ≡ suc (k + 1) = omega arith in rw e at (h d)))
 
-    last : get_or (take i xs) (length (take i xs) - 1) 0 < get_or xs i 0
-    last = rw long (let b : i - 1 < i = omega arith in rw get_or-take l)
-
--- A position that is not above the one before it.
-pub rising_not : (xs : List ℕ) (i : ℕ) → 0 < i → i < length xs → get_or xs i 0 ≤ get_or xs (i - 1) 0 → rising xs ≡ false
-rising_not [] i p h l = absurd (let z : ⊥ = omega arith in z)
-rising_not (x ∷ []) i p h l = absurd (let z : ⊥ = omega arith in z)
-rising_not (x ∷ (y ∷ xs)) zero p h l = absurd (let z : ⊥ = omega arith in z)
-rising_not (x ∷ (y ∷ xs)) (suc zero) p h l = ap (λ (t : Bool). t && rising (y ∷ xs)) (le-ltb x y l)
-rising_not (x ∷ (y ∷ xs)) (suc (suc i)) p h l =
-    and_none (ltb x y) (rising_not (y ∷ xs) (suc i) (let z : 0 < suc i = omega arith in z) (let z : suc i < length (y ∷ xs) = omega arith in z) lower)
-  where
-    lower : get_or (y ∷ xs) (suc i) 0 ≤ get_or (y ∷ xs) (suc i - 1) 0
-    lower =
-        let e : suc (suc i) - 1 ≡ suc i = omega arith in
-        let f : suc i - 1 ≡ i = omega arith in
-        rw f (rw e at l)
+-- What a comparison of each position with the next one answers.
+pub rising_answer : (xs : List ℕ) (r : Bool) → IsAllAdjacentAnswer (λ x y b. b ≡ ltb x y) xs r → r ≡ rising xs
+rising_answer xs true h = sym (rising_up xs h)
+rising_answer xs false h = sym (rising_not xs h.0 h.1 h.2)
 
 -- After one character the line damages what it would have damaged one later.
 pub next_at : (marks : List ℕ) (at k : ℕ) → is_marked marks (at + 1 + k) ≡ is_marked marks (at + (k + 1))

@@ -1,4 +1,5 @@
-use Rattle.std.specs.Prelude.{ℕ, ◌+◌, Bool, true, false, ◌&&◌, ◌||◌, List, [], ◌∷◌, length, take, Some, None, Ok, Err, Option, Result, ◌==◌, nat_le, nat_lt}
+use Rattle.std.specs.Prelude.{ℕ, ◌+◌, Bool, true, ◌&&◌, List, [], ◌∷◌, length, take, Some, None, Ok, Err, Option, Result, ◌==◌, nat_le, nat_lt}
+use Rattle.std.specs.List.{list_any}
 use Rattle.apdu.specs.declared.refusal.SettingRefusal.{SettingRefusal}
 use Rattle.apdu.specs.declared.refusal.SettingRefusal.TheVariants.{OutsideLimits}
 use Rattle.wire.specs.Lines.{Damage}
@@ -16,8 +17,7 @@ are_marks ps = nat_le (length ps) 64 && rising ps
 
 -- Whether a position is marked.
 abbrev pub is_marked : List ℕ → ℕ → Bool
-is_marked [] p = false
-is_marked (q ∷ qs) p = q == p || is_marked qs p
+is_marked marks p = list_any (λ q. q == p) marks
 
 -- The line damages the characters at the marked positions, counted from 0; `at` is the position of the next one.
 abbrev pub at_marks : List ℕ → ℕ → Damage

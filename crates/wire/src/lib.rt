@@ -13,4 +13,4 @@ pub use line::Line;
 pub use marked::MarkedLine;
 pub use periodic::PeriodicLine;
 pub use record::Record;
-pub use traced::Traced;
+pub use traced::{Sender, Traced};

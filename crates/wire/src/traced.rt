@@ -1,8 +1,16 @@
-// A character of a trace: whether the card sent it (else the terminal did), its byte, and whether it was damaged on the line.
-#[derive(Clone, Copy)]
+// Who sent a character.
+#[derive(Clone, Copy, Debug, PartialEq, Eq)]
+#[repr(u8)]
+pub enum Sender {
+    Terminal,
+    Card,
+}
+
+// A character of a trace: who sent it, its byte, and whether it was damaged on the line.
+#[derive(Clone, Copy, Debug, PartialEq, Eq)]
 #[repr(C)]
 pub struct Traced {
-    pub by_card: bool,
+    pub sender: Sender,
     pub byte: u8,
     pub damaged: bool,
 }

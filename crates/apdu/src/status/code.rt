@@ -8,7 +8,7 @@ use crate::status::Status;
 pub fn is_lawful(sw1: u8) -> bool
     ensures { result ≡ lawful sw1 }
 {
-    (sw1 >= 0x62 && sw1 <= 0x6f && sw1 != 0x6c) || (sw1 >= 0x90 && sw1 <= 0x9f)
+    matches!(sw1, 0x62..=0x6b | 0x6d..=0x6f | 0x90..=0x9f)
 }
 
 impl Status {

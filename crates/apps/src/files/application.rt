@@ -5,7 +5,7 @@ ghost use Rattle.apps.specs.FileValues.{files_app};
 ghost use Rattle.apps.specs.FileReplies.{Answered, good_run};
 
 use crate::files::Files;
-use apdu::{Application, Status};
+use apdu::{Application, Header, Status};
 
 // The class of the commands of files, and their instructions.
 const CLASS: u8 = 0x00;
@@ -28,25 +28,17 @@ fn write(answer: &[u8], buffer: &mut [u8; 256]) -> usize
 
 impl Files {
     // Runs a command: the count of answer bytes, which open the buffer, or the status that refuses it.
-    fn obey(
-        &mut self,
-        cla: u8,
-        ins: u8,
-        p1: u8,
-        p2: u8,
-        body: &[u8],
-        buffer: &mut [u8; 256],
-    ) -> Result<usize, Status>
-        ensures { Answered (files_run self.old cla ins p1 p2 body.now) self.new result buffer.old buffer.new }
+    fn obey(&mut self, header: Header, body: &[u8], buffer: &mut [u8; 256]) -> Result<usize, Status>
+        ensures { Answered (files_run self.old header.cla header.ins header.p1 header.p2 body.now) self.new result buffer.old buffer.new }
     {
-        if cla != CLASS {
+        if header.cla != CLASS {
             return Err(Status::unknown_class());
         }
-        match ins {
-            SELECT => Ok(write(&self.select(p1, p2, body)?, buffer)),
-            READ_BINARY => Ok(write(self.read(p1, p2, body)?, buffer)),
+        match header.ins {
+            SELECT => Ok(write(&self.select(header, body)?, buffer)),
+            READ_BINARY => Ok(write(self.read(header, body)?, buffer)),
             UPDATE_BINARY => {
-                self.update(p1, p2, body)?;
+                self.update(header, body)?;
                 Ok(0)
             }
             _ => Err(Status::unknown_instruction()),
@@ -61,16 +53,8 @@ impl Application for Files {
 
     ghost lawful = { λ s cla ins p1 p2 body h. (good_run s cla ins p1 p2 body).1 };
 
-    fn run(
-        &mut self,
-        cla: u8,
-        ins: u8,
-        p1: u8,
-        p2: u8,
-        body: &[u8],
-        buffer: &mut [u8; 256],
-    ) -> (usize, Status) {
-        match self.obey(cla, ins, p1, p2, body, buffer) {
+    fn run(&mut self, header: Header, body: &[u8], buffer: &mut [u8; 256]) -> (usize, Status) {
+        match self.obey(header, body, buffer) {
             Ok(count) => (count, Status::done()),
             Err(status) => (0, status),
         }

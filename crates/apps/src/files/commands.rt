@@ -3,14 +3,14 @@ ghost use Rattle.apps.specs.Files.{select_file, read_binary, update_binary};
 ghost use Rattle.apps.specs.Replies.{gives};
 
 use crate::files::Files;
-use apdu::Status;
+use apdu::{Header, Status};
 
 impl Files {
     // SELECT: the file with the id in the data becomes current, and the answer describes it.
-    pub(super) fn select(&mut self, p1: u8, p2: u8, body: &[u8]) -> Result<[u8; 10], Status>
-        ensures { gives self.new (λ bytes. bytes) result ≡ select_file self.old p1 p2 body.now }
+    pub(super) fn select(&mut self, header: Header, body: &[u8]) -> Result<[u8; 10], Status>
+        ensures { gives self.new (λ bytes. bytes) result ≡ select_file self.old header.p1 header.p2 body.now }
     {
-        if p1 != 0 || p2 != 0 {
+        if header.p1 != 0 || header.p2 != 0 {
             return Err(Status::wrong_parameters());
         }
         let [high, low] = body else {
@@ -23,19 +23,19 @@ impl Files {
     }
 
     // READ BINARY: the answer is the current file from the offset on.
-    pub(super) fn read(&self, p1: u8, p2: u8, body: &[u8]) -> Result<&[u8], Status>
-        ensures reply { gives self.now (λ bytes. bytes.now) result ≡ read_binary self.now p1 p2 body.now }
+    pub(super) fn read(&self, header: Header, body: &[u8]) -> Result<&[u8], Status>
+        ensures reply { gives self.now (λ bytes. bytes.now) result ≡ read_binary self.now header.p1 header.p2 body.now }
         ensures fits { IfOk result (λ bytes. length bytes.now ≤ 256) }
     {
-        let (place, offset) = self.current_at(p1, p2)?;
+        let (place, offset) = self.current_at(header)?;
         self.slots[place].read(offset, body)
     }
 
     // UPDATE BINARY: the data overwrite the current file from the offset on.
-    pub(super) fn update(&mut self, p1: u8, p2: u8, body: &[u8]) -> Result<(), Status>
-        ensures { gives self.new (λ _. []) result ≡ update_binary self.old p1 p2 body.now }
+    pub(super) fn update(&mut self, header: Header, body: &[u8]) -> Result<(), Status>
+        ensures { gives self.new (λ _. []) result ≡ update_binary self.old header.p1 header.p2 body.now }
     {
-        let (place, offset) = self.current_at(p1, p2)?;
+        let (place, offset) = self.current_at(header)?;
         self.slots[place].update(offset, body)
     }
 }

@@ -1,5 +1,5 @@
 use crate::files::{Entry, Files};
-use apdu::Application;
+use apdu::{Application, Header};
 use std::process::Abort;
 use std::test::Fail;
 
@@ -28,9 +28,9 @@ fn entry(id: u16, start: usize, length: usize) -> Entry {
 // Runs the commands in their order, each on a buffer whose other bytes are to stay.
 fn run_cases(rt: &impl Abort, files: &mut Files, cases: &[Case]) {
     for case in cases {
-        let [cla, ins, p1, p2] = case.header;
+        let header = Header::from(case.header);
         let mut buffer = [0xee; 256];
-        let (count, status) = files.run(cla, ins, p1, p2, case.body, &mut buffer);
+        let (count, status) = files.run(header, case.body, &mut buffer);
         assert_eq!(rt; [status.sw1(), status.sw2()], case.status);
         assert!(rt; count == case.answer.len() && count <= 256);
         assert_eq!(rt; &buffer[0..count], case.answer);
@@ -83,10 +83,14 @@ fn no_current_file_after_reset(rt: HostRuntime) -> Result<(), Fail> {
         return Err(Fail::new("the table is within its limits"));
     };
     let mut buffer = [0; 256];
-    let (_, selected) = files.run(0x00, 0xa4, 0x00, 0x00, &[0x2f, 0x01], &mut buffer);
+    let (_, selected) = files.run(
+        Header::from([0x00, 0xa4, 0x00, 0x00]),
+        &[0x2f, 0x01],
+        &mut buffer,
+    );
     assert_eq!(rt; [selected.sw1(), selected.sw2()], [0x90, 0x00]);
     files.reset();
-    let (count, read) = files.run(0x00, 0xb0, 0x00, 0x00, &[], &mut buffer);
+    let (count, read) = files.run(Header::from([0x00, 0xb0, 0x00, 0x00]), &[], &mut buffer);
     assert_eq!(rt; count, 0);
     assert_eq!(rt; [read.sw1(), read.sw2()], [0x69, 0x86]);
     Ok(())

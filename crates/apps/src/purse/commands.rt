@@ -5,7 +5,7 @@ ghost use Rattle.apps.specs.PurseReplies;
 ghost use Rattle.apps.specs.Replies.{gives};
 
 use crate::purse::{LIMIT, Purse};
-use apdu::{Application, Status};
+use apdu::{Application, Header, Status};
 
 // The class of the purse's commands, and their instructions.
 const CLASS: u8 = 0x80;
@@ -42,14 +42,16 @@ impl Purse {
     }
 
     // Runs a command: the balance that it answers, or the status that refuses it.
-    fn obey(&mut self, cla: u8, ins: u8, p1: u8, p2: u8, body: &[u8]) -> Result<u32, Status>
-        ensures { gives self.new four_bytes result ≡ purse_run self.old cla ins p1 p2 body.now }
+    fn obey(&mut self, header: Header, body: &[u8]) -> Result<u32, Status>
+        ensures { gives self.new four_bytes result ≡ purse_run self.old header.cla header.ins header.p1 header.p2 body.now }
     {
-        if cla != CLASS {
+        if header.cla != CLASS {
             return Err(Status::unknown_class());
         }
-        match ins {
-            BALANCE | CREDIT | DEBIT if p1 != 0 || p2 != 0 => Err(Status::wrong_parameters()),
+        match header.ins {
+            BALANCE | CREDIT | DEBIT if header.p1 != 0 || header.p2 != 0 => Err(
+                Status::wrong_parameters(),
+            ),
             BALANCE => self.shown(body),
             CREDIT => self.record(read_amount(body)?),
             DEBIT => self.record(-read_amount(body)?),
@@ -66,16 +68,8 @@ impl Application for Purse {
 
     ghost lawful = { λ ms cla ins p1 p2 body l. PurseReplies.lawful ms cla ins p1 p2 body };
 
-    fn run(
-        &mut self,
-        cla: u8,
-        ins: u8,
-        p1: u8,
-        p2: u8,
-        body: &[u8],
-        buffer: &mut [u8; 256],
-    ) -> (usize, Status) {
-        match self.obey(cla, ins, p1, p2, body) {
+    fn run(&mut self, header: Header, body: &[u8], buffer: &mut [u8; 256]) -> (usize, Status) {
+        match self.obey(header, body) {
             Ok(cents) => {
                 buffer[0..4].copy_from_slice(&cents.to_be_bytes());
                 (4, Status::done())

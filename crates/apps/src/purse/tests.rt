@@ -1,5 +1,5 @@
 use crate::purse::Purse;
-use apdu::Application;
+use apdu::{Application, Header};
 use std::process::Abort;
 
 const BALANCE: [u8; 4] = [0x80, 0x50, 0, 0];
@@ -10,9 +10,8 @@ const DEBIT: [u8; 4] = [0x80, 0x54, 0, 0];
 
 // Runs a command, and holds its answer bytes and its status to what is expected.
 fn replies(rt: &impl Abort, purse: &mut Purse, header: [u8; 4], body: &[u8], expected: &[u8]) {
-    let [cla, ins, p1, p2] = header;
     let mut buffer = [0xee; 256];
-    let (count, status) = purse.run(cla, ins, p1, p2, body, &mut buffer);
+    let (count, status) = purse.run(Header::from(header), body, &mut buffer);
     assert!(rt; count <= 4 && count + 2 == expected.len());
     assert_eq!(rt; &buffer[0..count], &expected[0..count]);
     assert_eq!(rt; status.sw1(), expected[count]);

@@ -34,7 +34,7 @@ fn send_line(
             let outcome = Outcome::Status(p.1.sw1(), p.1.sw2());
             turn_line(turn, program, outcome, &answer[0..count], out).unwrap_or(0)
         }
-        Err(e) => turn_line(turn, program, Outcome::Refusal(e.number()), b"", out).unwrap_or(0),
+        Err(e) => turn_line(turn, program, Outcome::Refusal(u8::from(e)), b"", out).unwrap_or(0),
     }
 }
 
@@ -51,7 +51,7 @@ fn reset_line(
 {
     match card.reset() {
         Ok(_) => turn_line(turn, program, Outcome::Reset, b"", out).unwrap_or(0),
-        Err(e) => turn_line(turn, program, Outcome::Refusal(e.number()), b"", out).unwrap_or(0),
+        Err(e) => turn_line(turn, program, Outcome::Refusal(u8::from(e)), b"", out).unwrap_or(0),
     }
 }
 

@@ -7,20 +7,20 @@ ghost use Rattle.link.specs.Results.{Sends, Resets, gave_of, reset_gave};
 ghost use Rattle.wire.specs.Records.{noted};
 ghost use Rattle.link.specs.Turns.{send, restart};
 ghost use Rattle.script.specs.Traces.{character_line, turn_text, bad_line};
-ghost use Rattle.cardtrace_t0.specs.Traces.{free, sender_of, character_lines, entry_line, turn_lines};
+ghost use Rattle.cardtrace_t0.specs.Traces.{free, character_lines, entry_line, turn_lines};
 
 use crate::session::Trouble;
 use apdu::{Refusal, Status};
 use link::Link;
-use script::trace::{LINE_ROOM, Outcome, Sender, bad_line, character_line, turn_line};
-use wire::{Record, Traced};
+use script::trace::{LINE_ROOM, Outcome, bad_line, character_line, turn_line};
+use wire::{Record, Sender, Traced};
 
 // The places of the trace of one turn: more than any turn has characters where at most 64 are damaged.
 const TRACE_ROOM: usize = 16384;
 
 // An unused place.
 const BLANK: Traced = Traced {
-    by_card: false,
+    sender: Sender::Terminal,
     byte: 0,
     damaged: false,
 };
@@ -38,15 +38,16 @@ pub(crate) fn write(out: &mut Vec<u8>, line: &[u8; LINE_ROOM], length: usize) ->
 
 // Adds the line of a character to the text.
 fn write_character(turn: u64, character: Traced, out: &mut Vec<u8>) -> Result<(), Trouble>
-    ensures { OnOk result (out.new.items ≡ out.old.items ++ character_line turn (sender_of character.by_card) character.byte character.damaged) }
+    ensures { OnOk result (out.new.items ≡ out.old.items ++ character_line turn character.sender character.byte character.damaged) }
 {
-    let sender = if character.by_card {
-        Sender::Card
-    } else {
-        Sender::Terminal
-    };
     let mut line = [0u8; LINE_ROOM];
-    let length = character_line(turn, sender, character.byte, character.damaged, &mut line);
+    let length = character_line(
+        turn,
+        character.sender,
+        character.byte,
+        character.damaged,
+        &mut line,
+    );
     write(out, &line, length)
 }
 
@@ -91,7 +92,7 @@ fn write_send(
             let outcome = Outcome::Status(p.1.sw1(), p.1.sw2());
             write_turn(turn, program, outcome, &answer[0..count], out)
         }
-        Err(e) => write_turn(turn, program, Outcome::Refusal(e.number()), b"", out),
+        Err(e) => write_turn(turn, program, Outcome::Refusal(u8::from(e)), b"", out),
     }
 }
 
@@ -106,7 +107,7 @@ fn write_reset(
 {
     match res {
         Ok(_) => write_turn(turn, program, Outcome::Reset, b"", out),
-        Err(e) => write_turn(turn, program, Outcome::Refusal(e.number()), b"", out),
+        Err(e) => write_turn(turn, program, Outcome::Refusal(u8::from(e)), b"", out),
     }
 }
 

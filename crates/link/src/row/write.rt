@@ -45,7 +45,7 @@ impl Row {
     {
         Row {
             program,
-            kind: refusal.number(),
+            kind: u8::from(refusal),
             sw1: 0,
             sw2: 0,
             place,

@@ -6,7 +6,8 @@ ghost use Rattle.script.specs.Texts.{joined};
 ghost use Rattle.script.specs.Traces.{letter, mark, outcome_text, character_line, turn_line, turn_text, bad_line};
 
 use crate::text::Text;
-use crate::trace::{Outcome, Sender};
+use crate::trace::Outcome;
+use wire::Sender;
 
 // The length of the longest line of a trace: a turn's, with 256 bytes of data.
 pub const LINE_ROOM: usize = 546;

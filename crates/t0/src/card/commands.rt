@@ -4,25 +4,14 @@ ghost use Rattle.t0.specs.Cards.{same_header, is_get_response, fetched, begun, a
 ghost use Rattle.t0.specs.CardValues.{meant, held_of, pending_of};
 
 use crate::card::{Card, Kept, Out, Receiving, Taking, Then};
-use crate::header::Header;
 use crate::settings::Style;
-use apdu::{Application, is_inward, is_reserved};
+use apdu::{Application, Header};
 
 // Whether it is the header of GET RESPONSE.
 fn is_get_response(header: Header) -> bool
     ensures { result ≡ is_get_response header }
 {
     header.ins == 0xc0 && header.p1 == 0 && header.p2 == 0
-}
-
-// Whether the headers are the same.
-fn is_same(asked: Header, header: Header) -> bool
-    ensures { result ≡ same_header asked header }
-{
-    asked.cla == header.cla
-        && asked.ins == header.ins
-        && asked.p1 == header.p1
-        && asked.p2 == header.p2
 }
 
 impl<A: Application> Card<A> {
@@ -42,9 +31,9 @@ impl<A: Application> Card<A> {
         ensures card { meant A.Application.means self.new ≡ begun A.Application.means self.old.settings (A.Application.means.state self.old.app) header p3 }
         ensures settings { self.new.settings ≡ self.old.settings }
     {
-        if is_reserved(header.cla, header.ins) {
+        if header.is_reserved() {
             self.close(Kept::Nothing, 0x6d, 0x00);
-        } else if !is_inward(header.ins) {
+        } else if !header.is_inward() {
             self.run_outward(header, p3);
         } else if p3 == 0 {
             self.run_inward(header, 0);
@@ -65,7 +54,7 @@ impl<A: Application> Card<A> {
         ensures settings { self.new.settings ≡ self.old.settings }
     {
         if let Kept::By6C(asked, answer) = self.kept {
-            if is_same(asked, header) && p3 as usize == answer.last as usize + 1 {
+            if asked == header && p3 as usize == answer.last as usize + 1 {
                 self.give(header.ins, answer.last, answer.status);
                 return;
             }

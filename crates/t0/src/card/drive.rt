@@ -3,9 +3,8 @@ ghost use Rattle.t0.specs.Cards.{at_rest, nothing, next_of, spoken, received, ca
 ghost use Rattle.t0.specs.CardValues.{meant};
 
 use crate::card::{Card, Kept, Out, Receiving};
-use crate::header::Header;
 use crate::settings::Settings;
-use apdu::Application;
+use apdu::{Application, Header};
 
 impl<A: Application> Card<A> {
     // A card that rests and holds nothing.

@@ -6,8 +6,7 @@ ghost use Rattle.t0.specs.CardValues.{meant, held_of, answer_of, reply_of, serve
 ghost use Rattle.t0.specs.Procedures.{as_p3};
 
 use crate::card::{Answer, Card, Kept, Reply};
-use crate::header::Header;
-use apdu::Application;
+use apdu::{Application, Header};
 
 // The first bytes of the data.
 fn opening(body: &[u8; 255], count: u8) -> &[u8]
@@ -42,10 +41,7 @@ impl<A: Application> Card<A> {
         ensures rest { (self.new.receiving ≡ self.old.receiving) × (self.new.body ≡ self.old.body) × (self.new.kept ≡ self.old.kept) × (self.new.out ≡ self.old.out) }
     {
         let (count, status) = self.app.run(
-            header.cla,
-            header.ins,
-            header.p1,
-            header.p2,
+            header,
             opening(&self.body, count),
             &mut self.answer,
         );

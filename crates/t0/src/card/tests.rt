@@ -6,7 +6,7 @@ ghost use Rattle.std.proofs.lemmas.Bool.{cond-false, ne_eqb};
 
 use crate::card::Card;
 use crate::settings::{Settings, Style};
-use apdu::{Application, Status};
+use apdu::{Application, Header, Status};
 use std::process::Abort;
 use std::test::Fail;
 
@@ -24,18 +24,10 @@ impl Application for Counter {
 
     ghost lawful = { λ x cla ins p1 p2 body l h. cond-false (p1 + p2 == 0) _ _ (ne_eqb (p1 + p2) 0 (λ e. omega (arith, length-replicate (min (p1 + p2) 256) x))) };
 
-    fn run(
-        &mut self,
-        _cla: u8,
-        _ins: u8,
-        p1: u8,
-        p2: u8,
-        _body: &[u8],
-        buffer: &mut [u8; 256],
-    ) -> (usize, Status) {
+    fn run(&mut self, header: Header, _body: &[u8], buffer: &mut [u8; 256]) -> (usize, Status) {
         let runs = self.runs;
         self.runs = runs.wrapping_add(1);
-        let count = (p1 as usize + p2 as usize).min(256);
+        let count = (header.p1 as usize + header.p2 as usize).min(256);
         if count == 0 {
             return (0, Status::conditions_not_met());
         }

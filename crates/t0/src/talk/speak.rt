@@ -10,7 +10,7 @@ use crate::carry::carry;
 use crate::talk::{Ending, Spoke};
 use crate::terminal::{Step, Waiting, Want};
 use apdu::Application;
-use wire::{Line, Record, Traced};
+use wire::{Line, Record, Sender, Traced};
 
 // The terminal sends a character, and the card sees it if it arrives.
 fn terminal_speaks<A: Application, L: Line>(
@@ -24,7 +24,7 @@ fn terminal_speaks<A: Application, L: Line>(
     ensures spoke { Speaks (terminal_speaks A.Application.means card.old.settings [] (record { terminal = waiting; card = meant A.Application.means card.old; staged = staged.now; coming = L.Line.damage line.old }) byte) result (meant A.Application.means card.new) staged.now (L.Line.damage line.new) trace.old trace.new }
     ensures settings { card.new.settings ≡ card.old.settings }
 {
-    match carry(line, false, byte, trace) {
+    match carry(line, Sender::Terminal, byte, trace) {
         Some(arrived) => {
             card.receive(arrived);
             Spoke::On(waiting.sent())
@@ -47,7 +47,7 @@ fn card_speaks<A: Application, L: Line>(
     let Some(byte) = card.next() else {
         return Spoke::Off(Ending::Broken);
     };
-    let Some(arrived) = carry(line, true, byte, trace) else {
+    let Some(arrived) = carry(line, Sender::Card, byte, trace) else {
         return Spoke::Off(Ending::Lost);
     };
     hear(waiting, arrived, staged)

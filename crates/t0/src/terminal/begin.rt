@@ -5,9 +5,8 @@ ghost use Rattle.t0.specs.Procedures.{as_p3};
 ghost use Rattle.t0.specs.Terminals.{sends, fetches};
 ghost use Rattle.t0.specs.Starts.{started, start_of, fetched_by, discarded_by};
 
-use crate::header::Header;
 use crate::terminal::{Begun, Discarded, Fetched, Holding, Kind, Phase, Ready, Token, Waiting};
-use apdu::{Command, Status, is_inward, judge};
+use apdu::{Command, Header, Status, judge};
 
 // A count as P3: 256 is 00.
 fn as_p3(n: usize) -> u8
@@ -39,13 +38,8 @@ impl Ready {
         ensures { result ≡ sends (parts command.entry) }
     {
         let Ready {} = self;
-        let header = Header {
-            cla: command.cla,
-            ins: command.ins,
-            p1: command.p1,
-            p2: command.p2,
-        };
-        if is_inward(command.ins) {
+        let header = command.header;
+        if header.is_inward() {
             let total = command.body.len();
             Waiting {
                 header,

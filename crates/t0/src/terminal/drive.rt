@@ -3,9 +3,8 @@ ghost use Rattle.t0.specs.Procedures.{as_p3, is_sw1, get_response};
 ghost use Rattle.t0.specs.Terminals.{heading_for, header_byte, place, wants, has_sent, hears, procedure_byte, move, closed, holds, repeats, is_part, count_moved, done_with, fetches, moving, at_phase, one_fewer};
 ghost use Rattle.apdu.specs.Commands.{wanted};
 
-use crate::header::Header;
 use crate::terminal::{Holding, Kind, Phase, Ready, Step, Token, Waiting, Want};
-use apdu::Status;
+use apdu::{Status, wanted};
 
 // Whether a procedure byte is SW1.
 fn is_first_status_byte(byte: u8) -> bool
@@ -298,11 +297,4 @@ impl Waiting {
             }
         }
     }
-}
-
-// A count in one byte: 00 is 256.
-fn wanted(count: u8) -> usize
-    ensures { result ≡ Rattle.apdu.specs.Commands.wanted count }
-{
-    if count == 0 { 256 } else { count as usize }
 }

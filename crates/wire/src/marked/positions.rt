@@ -10,12 +10,7 @@ use apdu::SettingRefusal;
 fn is_rising(positions: &[u16]) -> bool
     ensures { result ≡ rising positions.now }
 {
-    for i in 1..positions.len() {
-        if positions[i - 1] >= positions[i] {
-            return false;
-        }
-    }
-    true
+    positions.is_sorted_by(|before, after| before < after)
 }
 
 // The first 64 positions, and zeros behind them.
@@ -50,12 +45,7 @@ impl MarkedLine {
 fn is_marked(marks: &[u16], position: u32) -> bool
     ensures { result ≡ is_marked marks.now position }
 {
-    for mark in marks {
-        if *mark as u32 == position {
-            return true;
-        }
-    }
-    false
+    marks.iter().any(|mark| u32::from(*mark) == position)
 }
 
 impl Line for MarkedLine {

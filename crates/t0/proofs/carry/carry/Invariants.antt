@@ -8,4 +8,4 @@ use Rattle.t0.proofs.carry.carry.Given as goal
 abbrev pub invariant-loop : goal.invariant-loop
 invariant-loop g l =
     (cs : List Traced) × (Grew l.initial.trace l.trace cs
-    × (tried (g.L.Line.damage l.initial.line) l.by_card l.byte 4 ≡ after cs (tried (g.L.Line.damage l.line) l.by_card l.byte (4 - l.counter))))
+    × (tried (g.L.Line.damage l.initial.line) l.sender l.byte 4 ≡ after cs (tried (g.L.Line.damage l.line) l.sender l.byte (4 - l.counter))))

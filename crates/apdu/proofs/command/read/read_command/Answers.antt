@@ -3,4 +3,4 @@ use Rattle.apdu.proofs.Reading.{command_long}
 use Rattle.apdu.proofs.command.read.read_command.Goals as goal
 
 pub returns : goal.returns
-returns c = c.after_header.ensures ∙ command_long c.args.bytes.now (search rules)
+returns c = c.followed_by.ensures ∙ command_long c.args.bytes.now (search rules)

@@ -11,7 +11,7 @@ returns-in_err-place c =
     let l : length c.args.body.now ≡ 2 = search rules in
     let p = err_from_is_err_and c.from_residual.result c.from_residual.ensures.1 in
     rw (p.1, p.2)
-    (select_none c.args.self.now c.args.p1 c.args.p2 c.args.body.now c.if-p1-ne0.false c.if-p2-ne0.false l c.from_be_bytes-id.result c.from_be_bytes-id.ensures c.find.result _ c.find.ensures (c.in_err-place.ensures.value ∙ ap (ok_or c.find.result) c.file_not_found.ensures))
+    (select_none c.args.self.now c.args.header.p1 c.args.header.p2 c.args.body.now c.if-header-ne0.false c.if-header-ne0-2.false l c.from_be_bytes-id.result c.from_be_bytes-id.ensures c.find.result _ c.find.ensures (c.in_err-place.ensures.value ∙ ap (ok_or c.find.result) c.file_not_found.ensures))
 
 pub returns : goal.returns
 returns c =
@@ -24,4 +24,4 @@ returns c =
     (λ (f : File).
     record { state = record { files = c.args.self.now.files; current = Some c.from_be_bytes-id.result }; reply = record { answer = description f; status = done } })
     item
-    ∙ select_some c.args.self.now c.args.p1 c.args.p2 c.args.body.now c.if-p1-ne0.false c.if-p2-ne0.false l c.from_be_bytes-id.result c.from_be_bytes-id.ensures c.find.result c.in_ok-place.place c.index-deref-place.result c.find.ensures (c.in_ok-place.ensures.value ∙ ap (ok_or c.find.result) c.file_not_found.ensures))
+    ∙ select_some c.args.self.now c.args.header.p1 c.args.header.p2 c.args.body.now c.if-header-ne0.false c.if-header-ne0-2.false l c.from_be_bytes-id.result c.from_be_bytes-id.ensures c.find.result c.in_ok-place.place c.index-deref-place.result c.find.ensures (c.in_ok-place.ensures.value ∙ ap (ok_or c.find.result) c.file_not_found.ensures))
