@@ -1,9 +1,8 @@
-ghost use Rattle.std.specs.Prelude.{◌≡◌, ◌≤◌, length};
-ghost use Rattle.apdu.specs.Applications.{opened};
 ghost use Rattle.apps.specs.Files.{files_run};
 ghost use Rattle.apps.specs.FileValues.{files_app};
 ghost use Rattle.apps.specs.FileReplies.{Answered, good_run};
 
+use crate::answer::write;
 use crate::files::Files;
 use apdu::{Application, Header, Status};
 
@@ -16,16 +15,6 @@ const READ_BINARY: u8 = 0xb0;
 
 const UPDATE_BINARY: u8 = 0xd6;
 
-// Opens the buffer with an answer, and counts its bytes.
-fn write(answer: &[u8], buffer: &mut [u8; 256]) -> usize
-    requires { length answer.now ≤ 256 }
-    ensures answer { buffer.new ≡ opened answer.now buffer.old }
-    ensures count { result ≡ length answer.now }
-{
-    buffer[..answer.len()].copy_from_slice(answer);
-    answer.len()
-}
-
 impl Files {
     // Runs a command: the count of answer bytes, which open the buffer, or the status that refuses it.
     fn obey(&mut self, header: Header, body: &[u8], buffer: &mut [u8; 256]) -> Result<usize, Status>
@@ -37,10 +26,7 @@ impl Files {
         match header.ins {
             SELECT => Ok(write(&self.select(header, body)?, buffer)),
             READ_BINARY => Ok(write(self.read(header, body)?, buffer)),
-            UPDATE_BINARY => {
-                self.update(header, body)?;
-                Ok(0)
-            }
+            UPDATE_BINARY => self.update(header, body).map(|()| 0),
             _ => Err(Status::unknown_instruction()),
         }
     }

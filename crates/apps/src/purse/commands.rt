@@ -4,6 +4,7 @@ ghost use Rattle.apps.specs.PurseState.{purse_means};
 ghost use Rattle.apps.specs.PurseReplies;
 ghost use Rattle.apps.specs.Replies.{gives};
 
+use crate::answer::write;
 use crate::purse::{LIMIT, Purse};
 use apdu::{Application, Header, Status};
 
@@ -70,10 +71,7 @@ impl Application for Purse {
 
     fn run(&mut self, header: Header, body: &[u8], buffer: &mut [u8; 256]) -> (usize, Status) {
         match self.obey(header, body) {
-            Ok(cents) => {
-                buffer[0..4].copy_from_slice(&cents.to_be_bytes());
-                (4, Status::done())
-            }
+            Ok(cents) => (write(&cents.to_be_bytes(), buffer), Status::done()),
             Err(status) => (0, status),
         }
     }
