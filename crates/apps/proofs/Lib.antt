@@ -5,3 +5,4 @@ pub mod FilePlaces
 pub mod FileShelves
 pub mod FileContents
 pub mod FileTables
+pub mod PurseSums

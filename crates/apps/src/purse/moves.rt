@@ -27,11 +27,7 @@ impl Purse {
         ensures debit { DebitTakes }
         ensures refusal { RefusalKeeps }
     {
-        let movements = self.movements.as_slice();
-        let mut sum = 0i32;
-        for movement in movements {
-            sum += *movement;
-        }
+        let sum: i32 = self.movements.iter().sum();
         sum as u32
     }
 

@@ -1,36 +1,36 @@
-use Rattle.std.proofs.Common.{get_or, pos, sym, subst, ap, ◌∙◌, w32, SFits, rules}
-use Rattle.std.proofs.lemmas.List.{take_all}
+use Rattle.std.proofs.Common.{◌≡◌, ap, ◌∙◌, w32, SFits, rules}
 use Rattle.std.proofs.lemmas.Int.{to_z-of_z}
-use Rattle.apps.specs.Purse.{balance, Sound}
-use Rattle.apps.proofs.PurseBalances.{balance_joined, sum_more, sum_more_fits, sound_whole, cents_of, cents_limit, cents_fit}
+use Rattle.apps.specs.Purse.{balance}
+use Rattle.apps.proofs.PurseSums.{run_fits, run_whole}
+use Rattle.apps.proofs.PurseBalances.{balance_joined, sound_whole, cents_of, cents_limit, cents_fit}
 use Rattle.apps.proofs.PurseLaws.{credit_adds, debit_takes, refusal_keeps}
 use Rattle.apps.proofs.purse.Purse.balance.Goals as goal
+use Rattle.apps.proofs.purse.Purse.balance.Goals.{After-sum-sum}
 
-pub overflow_add-sum : goal.overflow_add-sum
-overflow_add-sum c =
-    let f : SFits w32 (get_or c.as_slice-movements.result.now c.loop-movement.movement-index (pos 0)) = search rules in
-    simp to_z-of_z
-    (sum_more_fits _ _ _ _ c.as_slice-movements.ensures.value c.self.invariant.sound c.loop-movement-test.true c.loop-movement.invariant)
+pub sum-sum-requires-clause-fits : goal.sum-sum-requires-clause-fits
+sum-sum-requires-clause-fits c =
+    λ p seen from. run_fits p _ _ (c.iter.ensures.runs p seen) (ap (λ it. it.rest.now) from ∙ c.iter.ensures.rest ∙ c.deref.ensures.0) c.self.invariant.sound
 
-pub loop-movement-preserved : goal.loop-movement-preserved
-loop-movement-preserved c =
-    let f : SFits w32 (get_or c.as_slice-movements.result.now c.loop-movement.movement-index (pos 0)) = search rules in
-    to_z-of_z w32 _ (overflow_add-sum c) ∙ simp to_z-of_z (sum_more _ _ _ c.loop-movement-test.true c.loop-movement.invariant)
+summed : (c : After-sum-sum) → c.sum-sum.result ≡ balance c.self.inside.movements.items
+summed c =
+    let h = c.sum-sum.ensures.runs tt in
+    h.3 ∙ run_whole h.0 _ _ (c.iter.ensures.runs h.0 h.0.seen) (ap (λ it. it.rest.now) h.1 ∙ c.iter.ensures.rest ∙ c.deref.ensures.0) h.2
 
 pub overflow_cast-result : goal.overflow_cast-result
 overflow_cast-result c =
-    cents_fit _ _ (c.loop-movement.invariant ∙ ap balance (take_all _ _ c.loop-movement-test.false))
-    (sound_whole _ (subst Sound (sym c.as_slice-movements.ensures.value) c.self.invariant.sound))
+    let f : SFits w32 c.sum-sum.result = search rules in
+    simp to_z-of_z (cents_fit _ _ (summed c) (sound_whole _ c.self.invariant.sound))
 
 pub returns : goal.returns
 returns c =
-    let e = c.loop-movement.invariant ∙ ap balance (take_all _ _ c.loop-movement-test.false) in
-    let w = sound_whole _ (subst Sound (sym c.as_slice-movements.ensures.value) c.self.invariant.sound) in
-    record {
-      value = cents_of _ _ e w ∙ ap balance (c.as_slice-movements.ensures.value ∙ c.self.view_is);
-      limits = cents_limit _ _ e w;
+    let f : SFits w32 c.sum-sum.result = search rules in
+    let w = sound_whole _ c.self.invariant.sound in
+    simp to_z-of_z
+    (record {
+      value = cents_of _ _ (summed c) w ∙ ap balance c.self.view_is;
+      limits = cents_limit _ _ (summed c) w;
       joining = balance_joined;
       credit = credit_adds;
       debit = debit_takes;
       refusal = refusal_keeps;
-    }
+    })
