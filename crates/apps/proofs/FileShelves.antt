@@ -9,7 +9,7 @@ use Rattle.apdu.specs.declared.status.Status.{Status}
 use Rattle.apps.specs.Files.{File, Shelf, find, named, refused, number_in, description, selected, select_file, read_file, read_from, read_binary, update_file, update_in, update_binary, put_back}
 use Rattle.apps.specs.Replies.{gives}
 use Rattle.apps.specs.FilePlaces.{place, place_named, at_offset, current_at}
-use Rattle.apps.proofs.FilePlaces.{found, missing, named_found, named_replaced, named_missing}
+use Rattle.apps.proofs.FilePlaces.{found, found_id, missing, named_found, named_replaced, named_missing}
 
 -- What SELECT comes to.
 module _ (s : Shelf) (p1 p2 : ℕ) (body : List ℕ) (a : p1 ≡ 0) (b : p2 ≡ 0) (l : length body ≡ 2) (id : ℕ) (e : id ≡ number_in body) where
@@ -31,9 +31,8 @@ module _ (s : Shelf) (p1 p2 : ℕ) (body : List ℕ) (a : p1 ≡ 0) (b : p2 ≡ 
   select_some (Some j) i d h r =
       let q : i ≡ j = cc in
       let p : Some i ≡ place id s.files = ap Some q ∙ h in
-      let f = found s.files id i p in
-      ap (λ (n : ℕ). record { state = record { files = s.files; current = Some n }; reply = record { answer = description (get_or s.files i d); status = done } }) (sym (f.named d))
-      ∙ ap (selected s) (sym (f.finds d))
+      ap (λ (n : ℕ). record { state = record { files = s.files; current = Some n }; reply = record { answer = description (get_or s.files i d); status = done } }) (sym (found_id s.files id i d p))
+      ∙ ap (selected s) (sym (found s.files id i d p))
       ∙ sym select_named
 
 -- What a place and an offset tell.

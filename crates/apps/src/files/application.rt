@@ -18,7 +18,8 @@ const UPDATE_BINARY: u8 = 0xd6;
 impl Files {
     // Runs a command: the count of answer bytes, which open the buffer, or the status that refuses it.
     fn obey(&mut self, header: Header, body: &[u8], buffer: &mut [u8; 256]) -> Result<usize, Status>
-        ensures { Answered (files_run self.old header.cla header.ins header.p1 header.p2 body.now) self.new result buffer.old buffer.new }
+        ensures { Answered (files_run self.old header.cla header.ins header.p1 header.p2 body.now)
+            self.new result buffer.old buffer.new }
     {
         if header.cla != CLASS {
             return Err(Status::unknown_class());
