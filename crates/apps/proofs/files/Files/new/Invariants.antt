@@ -1,5 +1,5 @@
 use Rattle.apps.proofs.FileTables.{Filled}
 use Rattle.apps.proofs.files.Files.new.Given as goal
 
-abbrev pub invariant-loop-i : goal.invariant-loop-i
-invariant-loop-i l = Filled l.contents l.table l.i l.slots
+abbrev pub invariant-loop-entry : goal.invariant-loop-entry
+invariant-loop-entry l = Filled l.contents l.table l.entry-index l.slots.items
