@@ -1,15 +1,10 @@
+pub mod Commands
 pub mod Splits
-pub mod Numbers
-pub mod Openings
 pub mod Hexes
-pub mod Sends
 pub mod Inversions
 pub mod LineLaws
-pub mod Feeding
 pub mod Lengths
 pub mod ScriptLaws
 pub mod Backwards
-pub mod Figures
-pub mod Joins
 pub mod HexTexts
-pub mod TraceTexts
+pub mod Numbers
