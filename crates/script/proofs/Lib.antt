@@ -8,3 +8,4 @@ pub mod ScriptLaws
 pub mod Backwards
 pub mod HexTexts
 pub mod Numbers
+pub mod Words

@@ -6,7 +6,7 @@ use arrayvec::ArrayString;
 use itoa::{Buffer, Integer};
 
 // Adds a number in decimal.
-pub fn push_number<N: Integer, const ROOM: usize>(text: &mut ArrayString<ROOM>, number: N)
+pub(crate) fn push_number<N: Integer, const ROOM: usize>(text: &mut ArrayString<ROOM>, number: N)
     requires { array_string_len text.old + N.MAX_STR_LEN ≤ ROOM }
     ensures bytes { text.new.bytes ≡ text.old.bytes ++ N.text number }
     ensures len { array_string_len text.new ≤ array_string_len text.old + N.MAX_STR_LEN }
@@ -28,7 +28,7 @@ fn hex_digit(number: u8) -> char
 }
 
 // Adds each byte as two hex digits.
-pub fn push_hex<const ROOM: usize>(text: &mut ArrayString<ROOM>, bytes: &[u8])
+pub(crate) fn push_hex<const ROOM: usize>(text: &mut ArrayString<ROOM>, bytes: &[u8])
     requires { array_string_len text.old + 2 * length bytes.now ≤ ROOM }
     ensures bytes { text.new.bytes ≡ text.old.bytes ++ hex bytes.now }
     ensures len { array_string_len text.new ≡ array_string_len text.old + 2 * length bytes.now }

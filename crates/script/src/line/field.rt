@@ -1,6 +1,5 @@
 ghost use Rattle.std.specs.Prelude.{◌≡◌, ◌&&◌};
 ghost use Rattle.std.specs.Option.{option_map};
-ghost use Rattle.std.specs.Str.{bytes_eq};
 ghost use Rattle.script.specs.Fields.{split, both, all_digits, well_led, number};
 
 use std::str;
@@ -11,13 +10,6 @@ pub fn cut(text: &[u8]) -> Option<(&[u8], &[u8])>
 {
     let comma = text.iter().position(|b| *b == b',')?;
     Some((&text[..comma], &text[comma + 1..]))
-}
-
-// Whether a text is a word.
-pub fn is_word(text: &[u8], word: &[u8]) -> bool
-    ensures { result ≡ bytes_eq text.now word.now }
-{
-    text == word
 }
 
 // Whether there is a first byte, which is a 0 only where it stands alone.

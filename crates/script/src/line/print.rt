@@ -4,7 +4,7 @@ ghost use Rattle.script.specs.Lines.{link, damage, reset, printed, protocol_text
 ghost use Rattle.script.specs.Printing.{line_with, sent_within, count_of, copied_of};
 ghost use Rattle.script.specs.Texts.{room_for, copied};
 
-use crate::line::{LINE_MAX, Line, Protocol, Settings, Style};
+use crate::line::{COMMAND_MAX, LINE_MAX, Line, Protocol, Settings, Style};
 use crate::text::{push_hex, push_number};
 use arrayvec::ArrayString;
 
@@ -58,7 +58,7 @@ fn damage_text(position: u16) -> ArrayString<LINE_MAX>
 fn send_text(program: u8, command: &[u8]) -> Option<ArrayString<LINE_MAX>>
     ensures { option_map (λ text. text.bytes) result ≡ option_map printed (sent_within program command.now) }
 {
-    if command.len() > 300 {
+    if command.len() > COMMAND_MAX {
         return None;
     }
     let mut text = ArrayString::new();

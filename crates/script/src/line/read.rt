@@ -2,7 +2,7 @@ ghost use Rattle.std.specs.Prelude.{◌≡◌};
 ghost use Rattle.std.specs.Option.{option_map};
 ghost use Rattle.script.specs.Lines.{line_of, send_of, after_word, told, held, apart};
 
-use crate::line::field::{cut, is_word, read_byte, read_number};
+use crate::line::field::{cut, read_byte, read_number};
 use crate::line::hex::read_command;
 use crate::line::link::read_settings;
 use crate::line::{COMMAND_MAX, Line};
@@ -23,21 +23,16 @@ fn read_send(text: &[u8]) -> Option<(Line, ArrayVec<u8, COMMAND_MAX>)>
 fn read_after(word: &[u8], text: &[u8]) -> Option<(Line, ArrayVec<u8, COMMAND_MAX>)>
     ensures { result ≡ option_map apart (after_word word.now text.now) }
 {
-    if is_word(word, b"link") {
-        return Some((Line::Link(read_settings(text)?), ArrayVec::new()));
+    match word {
+        b"link" => Some((Line::Link(read_settings(text)?), ArrayVec::new())),
+        b"damage" => Some((Line::Damage(read_number(text, 0, 65535)?), ArrayVec::new())),
+        b"send" => read_send(text),
+        b"reset" => {
+            let program = read_byte(text, 0, 255)?;
+            Some((Line::Reset { program }, ArrayVec::new()))
+        }
+        _ => None,
     }
-    if is_word(word, b"damage") {
-        let position = read_number(text, 0, 65535)?;
-        return Some((Line::Damage(position), ArrayVec::new()));
-    }
-    if is_word(word, b"send") {
-        return read_send(text);
-    }
-    if is_word(word, b"reset") {
-        let program = read_byte(text, 0, 255)?;
-        return Some((Line::Reset { program }, ArrayVec::new()));
-    }
-    None
 }
 
 // One line, given without its LF, and the command that it sends: only a send has one.

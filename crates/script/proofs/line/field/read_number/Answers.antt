@@ -1,5 +1,4 @@
-use Rattle.std.proofs.Common.{◌≡◌, ◌&&◌, ◌<◌, cond, leb, Bool, true, false, refl, Some, None, ap, sym, ◌∙◌, arith, rules}
-use Rattle.std.proofs.lemmas.Bool.Decides.{nat_tests}
+use Rattle.std.proofs.Common.{◌≡◌, ◌&&◌, ◌<◌, cond, leb, Bool, true, false, refl, Some, None, sym, ◌∙◌, rules}
 use Rattle.std.specs.Bool.{then_some}
 use Rattle.script.proofs.Numbers.{le_cmp, parsed, unparsed, refused_utf8}
 use Rattle.script.proofs.line.field.read_number.Goals as goal
