@@ -1,11 +1,12 @@
-use Rattle.std.proofs.Common.{◌≡◌, ℕ, eqb, ltb, List, [], ◌∷◌, ◌++◌, length, Some, None, Option, sym, refl, ap, ◌∙◌, append-nil}
+use Rattle.std.proofs.Common.{◌≡◌, ℕ, eqb, ltb, List, [], ◌∷◌, ◌++◌, length, Some, None, Option, Result, sym, refl, ap, ◌∙◌, append-nil}
 use Rattle.std.proofs.lemmas.Bool.{cond_both}
 use Rattle.script.specs.Lines as lines
 use Rattle.script.specs.Readings.{Reading, Stepped, Out, more, line, bad, fed, finished, judged, shown}
 use Rattle.script.specs.Scripts.{placed}
 use Rattle.script.specs.Steps.{brought, noted}
 use Rattle.script.specs.declared.reader.Stage.{Stage}
-use Rattle.script.specs.declared.reader.Step.{Step}
+use Rattle.script.specs.declared.line.Line as code
+use Rattle.script.specs.declared.reader.Refusal.{Refusal}
 use Rattle.script.proofs.ScriptLaws as laws
 use Rattle.cardtrace.specs.Traces.{Playing, Printed, played, printed, start}
 use Rattle.cardtrace.specs.Sessions.{Tracing, step_played, by_step, takes, prints, begins, TracesScripts}
@@ -34,11 +35,11 @@ module _ (p : Playing) where
       (λ _. cond_both (eqb (length r.part) 0) _ _ Tells (λ _. refl)
       (λ _. tells_judged r (placed r.stage (lines.line_of r.part))))
 
-  pub joins : (s : Stepped) (R : Reading) (st : Step) → R ≡ s.after → st ≡ shown s.out → Tells s → step_played p st R.command ≡ played p s.out
+  pub joins : (s : Stepped) (R : Reading) (st : Result (Option code.Line) Refusal) → R ≡ s.after → st ≡ shown s.out → Tells s → step_played p st R.command ≡ played p s.out
   joins s R st e f t =
-      ap (λ (r : Reading). step_played p st r.command) e ∙ ap (λ (x : Step). step_played p x s.after.command) f ∙ t
+      ap (λ (r : Reading). step_played p st r.command) e ∙ ap (λ (x : Result (Option code.Line) Refusal). step_played p x s.after.command) f ∙ t
 
-  pub closes : (s : Stepped) (R : Reading) (st : Step) → R ≡ s.after → st ≡ shown s.out → Tells s
+  pub closes : (s : Stepped) (R : Reading) (st : Result (Option code.Line) Refusal) → R ≡ s.after → st ≡ shown s.out → Tells s
       → ◌≡◌ {A = Tracing} (record { reading = R; playing = (step_played p st R.command).after }) (by_step p s).after
   closes s R st e f t =
       ap (λ (q : Printed). record { reading = R; playing = q.after }) (joins s R st e f t)

@@ -1,6 +1,7 @@
-use Rattle.std.proofs.Common.{◌≡◌, ℕ, ◌-◌, ◌≤◌, Bool, cond, List, length, take, drop, Some, None, Ok, sym, ap, ◌∙◌, arith, length-append, length-take, le-leb}
+use Rattle.std.proofs.Common.{◌≡◌, ℕ, ◌-◌, ◌≤◌, Bool, cond, List, length, take, Some, None, Ok, Option, sym, ap, ◌∙◌, arith, length-append, length-take, le-leb}
 use native.Mathlib.Nat.{sub-zero}
-use Rattle.script.specs.Hex.{opened}
+use Rattle.std.specs.Option.{option_map, UnwrapsOrElse}
+use Rattle.arrayvec.specs.ArrayString.{ArrayString}
 use Rattle.apdu.specs.declared.status.Status.{Status}
 use Rattle.link.specs.Results.{Sends}
 use Rattle.link.specs.Turns.{Did, Gave, gives, taken}
@@ -27,6 +28,7 @@ done_line turn program n a b status left g e long ea eb =
     few : length (take n left) ≤ 256
     few = omega (arith, length-take n left)
 
--- A text that opened a memory is no longer than the memory.
-pub opened_within : (text before after : List ℕ) → after ≡ opened text before → length text ≤ length after
-opened_within text before after e = omega (arith, ap length e, length-append text (drop (length text) before))
+-- What is given of a line that there is.
+pub given : (o : Option ArrayString) (P : ArrayString → Type 0) (r : ArrayString) (text : List ℕ) → UnwrapsOrElse o P r → option_map (λ t. t.bytes) o ≡ Some text → r.bytes ≡ text
+given None P r text e f = absurd (grind arith)
+given (Some t) P r text e f = rw e (cc)

@@ -6,7 +6,6 @@
 mod session;
 
 use anyhow::anyhow;
-use script::trace::LINE_ROOM;
 use session::Session;
 use std::fs::File;
 use std::io::{BufWriter, Read, Write};
@@ -15,9 +14,7 @@ use std::{env, io};
 // Feeds a session some bytes of the script, and writes what it gives.
 fn feed<W: Write>(session: &mut Session, bytes: &[u8], output: &mut W) -> io::Result<()> {
     for byte in bytes {
-        let mut line = [0u8; LINE_ROOM];
-        let length = session.push(*byte, &mut line);
-        output.write_all(&line[0..length])?;
+        output.write_all(session.push(*byte).as_bytes())?;
     }
     Ok(())
 }
@@ -35,9 +32,7 @@ fn play<R: Read, W: Write>(input: &mut R, output: &mut W) -> anyhow::Result<()> 
         }
         feed(&mut session, &chunk[0..count], output)?;
     }
-    let mut line = [0u8; LINE_ROOM];
-    let length = session.finish(&mut line);
-    output.write_all(&line[0..length])?;
+    output.write_all(session.finish().as_bytes())?;
     output.flush()?;
     Ok(())
 }

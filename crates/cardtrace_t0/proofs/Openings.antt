@@ -11,7 +11,7 @@ use Rattle.t0.specs.declared.settings.Settings.{Settings}
 use Rattle.t0.specs.declared.settings.Style.{Style}
 use Rattle.t0link.specs.Links.{linked_by}
 use Rattle.wire.specs.MarkedLines.{are_marks, at_marks}
-use Rattle.cardtrace_t0.specs.Cards.{first_shelf, settings_said, style_said, link_by, link_said}
+use Rattle.cardtrace_t0.specs.Cards.{first_shelf, settings_said, link_by, link_said}
 use Rattle.cardtrace_t0.specs.Plays.{opening, over}
 
 -- Settings are their waits and their style: the fact beside them has one proof.
@@ -25,7 +25,7 @@ settings_same s t e f =
 pub opens : (l : Linked Shelf) (s : script.Settings) (settings : Settings) (marks got : List ℕ) (at m : ℕ) (style : Style) (x : Shelf)
     → ◌≡◌ {A = Option (List ℕ × ℕ)} (Some (got, at)) (cond (are_marks marks) (Some (marks, 0)) None)
     → ◌≡◌ {A = Option (ℕ × Style)} (Some (settings.waits, settings.style)) (cond (leb m 15) (Some (m, style)) None)
-    → m ≡ min s.waits 15 → style ≡ style_said s.style → s.protocol ≡ T0 → x ≡ first_shelf
+    → m ≡ min s.waits 15 → style ≡ s.style → s.protocol ≡ T0 → x ≡ first_shelf
     → l ≡ linked_by settings (at_marks got at) x false
     → over l ≡ cond (are_marks marks) (over (link_said s marks)) (opening s marks)
 opens l s settings marks got at m style x em es en ey ep ex el = by (are_marks marks) refl

@@ -1,26 +1,12 @@
 use Rattle.std.proofs.Common.{◌≡◌, ℕ, ◌+◌, ◌-◌, ◌<◌, ◌≤◌, min, Bool, true, false, cond, ltb, List, [], ◌∷◌, ◌++◌, length, get_or, take, drop, IfOk, Some, None, Option, Result, unwrap_or, sym, refl, ap, ◌∙◌, append_assoc, append-nil, arith, length-take, ltb-false, ltb-true, le-leb}
-use lib.Seq.{take-append_seam}
 use Rattle.std.proofs.lemmas.List.{take_all, take_more}
 use Rattle.std.proofs.lemmas.Result.{IfOk-weaker}
-use Rattle.std.specs.Option.{option_map}
-use Rattle.script.specs.Hex.{opened, opened_by}
 use Rattle.apdu.specs.declared.status.Status.{Status}
 use Rattle.link.specs.Turns.{Gave, gives}
 use Rattle.script.specs.Traces.{character_line, turn_line, turn_text}
 use Rattle.script.specs.declared.trace.Outcome.TheVariants as trace
 use Rattle.wire.specs.declared.traced.Traced.{Traced}
 use Rattle.cardtrace_t0.specs.Traces.{character_lines, entry_line}
-
--- A text that opens a memory is its first bytes.
-pub front : (text before after : List ℕ) (n : ℕ) → n ≡ length text → after ≡ opened text before → take n after ≡ text
-front text before after n en ea =
-    ap (λ (k : ℕ). take k after) en ∙ ap (take (length text)) ea ∙ take-append_seam text (drop (length text) before)
-
--- What was written of a line's memory is the line.
-pub wrote : {X Y : Type 0} (r : Result X Y) (items old text before after : List ℕ) (n : ℕ)
-    → IfOk r (λ _. items ≡ old ++ take n after) → n ≡ length text → after ≡ opened text before → IfOk r (λ _. items ≡ old ++ text)
-wrote r items old text before after n m en ea =
-    IfOk-weaker r _ _ (λ x (h : items ≡ old ++ take n after). h ∙ ap (λ (t : List ℕ). old ++ t) (front text before after n en ea)) m
 
 -- The first bytes of a memory, as far as there are any.
 clipped_to : (room : ℕ) (line : List ℕ) (n m : ℕ) → m ≡ min n room → length line ≡ room → take (m - 0) line ≡ take n line
@@ -31,22 +17,6 @@ clipped_to room line n m e long = by (ltb n room) refl
     by false t =
         let h : room ≤ n = ltb-false n room t in
         take_all (m - 0) line (omega arith) ∙ sym (take_all n line (omega arith))
-
-pub clipped_onto : (items old line : List ℕ) (n m : ℕ) → items ≡ old ++ take (m - 0) line → m ≡ min n 546 → length line ≡ 546 → items ≡ old ++ take n line
-clipped_onto items old line n m h e long = h ∙ ap (λ (t : List ℕ). old ++ t) (clipped_to 546 line n m e long)
-
-take_none : (xs : List ℕ) → take 0 xs ≡ []
-take_none [] = refl
-take_none (x ∷ xs) = refl
-
--- The same for a line that may be none.
-pub wrote_if : {X Y : Type 0} (r : Result X Y) (items old before after : List ℕ) (text : Option (List ℕ)) (count : Option ℕ) (n : ℕ)
-    → IfOk r (λ _. items ≡ old ++ take n after) → n ≡ unwrap_or count 0 → count ≡ option_map length text → after ≡ opened_by text before
-    → IfOk r (λ _. items ≡ old ++ unwrap_or text [])
-wrote_if r items old before after (Some text) count n m en ec ea = wrote r items old text before after n m (en ∙ ap (λ (o : Option ℕ). unwrap_or o 0) ec) ea
-wrote_if r items old before after None count n m en ec ea =
-    let z : n ≡ 0 = en ∙ ap (λ (o : Option ℕ). unwrap_or o 0) ec in
-    IfOk-weaker r _ _ (λ x (h : items ≡ old ++ take n after). h ∙ ap (λ (k : ℕ). old ++ take k after) z ∙ ap (λ (t : List ℕ). old ++ t) (take_none after)) m
 
 lines_append : (turn : ℕ) (cs ds : List Traced) → character_lines turn (cs ++ ds) ≡ character_lines turn cs ++ character_lines turn ds
 lines_append turn [] ds = refl

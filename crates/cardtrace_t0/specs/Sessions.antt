@@ -1,19 +1,17 @@
-use Rattle.std.specs.Prelude.{◌≡◌, ℕ, Bool, true, false, List, [], ◌∷◌, ◌++◌, take}
+use Rattle.std.specs.Prelude.{◌≡◌, ℕ, Bool, true, false, List, [], ◌∷◌, ◌++◌, take, Some, None, Ok, Err, Option, Result}
 use Rattle.apps.specs.Files.{Shelf}
 use Rattle.apps.specs.FileValues.{files_app}
 use Rattle.apps.specs.declared.files.Files.{Files}
 use Rattle.link.specs.Meaning.{Linked}
 use Rattle.link.specs.Meant.{meant_link}
 use Rattle.link.specs.Turns.{send, restart}
-use Rattle.script.specs.Readers.{meaning}
 use Rattle.script.specs.Readings.{Reading, Stepped, fresh, fed, finished}
 use Rattle.script.specs.Scripts.{script}
 use Rattle.script.specs.Traces.{bad_line}
+use Rattle.script.specs.declared.line.Line as script_line
 use Rattle.script.specs.declared.line.Line.TheVariants.{Link, Damage, Send, Reset}
 use Rattle.script.specs.declared.reader.Refusal.TheVariants.{BadLine}
-use Rattle.script.specs.declared.reader.Step.TheVariants.{More, Refused}
-use Rattle.script.specs.declared.reader.Step.TheVariants as step
-use Rattle.script.specs.declared.reader.Step.{Step}
+use Rattle.script.specs.declared.reader.Refusal.{Refusal}
 use Rattle.t0link.specs.Links.{linked_by}
 use Rattle.t0link.specs.declared.t0_link.T0Link.{T0Link}
 use Rattle.wire.specs.MarkedLines.{at_marks, marks_of}
@@ -52,16 +50,16 @@ on_direct (Direct l) = true
 
 -- The session that a value of the code is in.
 abbrev pub tracing : Session → Tracing
-tracing s = record { reading = meaning s.reader; playing = record { stand = stand_of s.stand; turn = s.turn } }
+tracing s = record { reading = s.reader; playing = record { stand = stand_of s.stand; turn = s.turn } }
 
 -- What the code makes of what its reader told: a send line's command lies with the reader.
-abbrev pub step_played : Playing → Step → List ℕ → Printed
-step_played p More command = quietly p
-step_played p (step.Line (Link s)) command = quietly (record { stand = linked_up p.stand s; turn = p.turn })
-step_played p (step.Line (Damage k)) command = quietly (record { stand = marked p.stand k; turn = p.turn })
-step_played p (step.Line (Send u n)) command = turn_played p u (send command)
-step_played p (step.Line (Reset u)) command = turn_played p u restart
-step_played p (Refused (BadLine n)) command = record { after = p; text = bad_line n }
+abbrev pub step_played : Playing → Result (Option script_line.Line) Refusal → List ℕ → Printed
+step_played p (Ok None) command = quietly p
+step_played p (Ok (Some (Link s))) command = quietly (record { stand = linked_up p.stand s; turn = p.turn })
+step_played p (Ok (Some (Damage k))) command = quietly (record { stand = marked p.stand k; turn = p.turn })
+step_played p (Ok (Some (Send u n))) command = turn_played p u (send command)
+step_played p (Ok (Some (Reset u))) command = turn_played p u restart
+step_played p (Err (BadLine n)) command = record { after = p; text = bad_line n }
 
 -- What a step leaves, and what it prints.
 pub record Traced : Type 0 where

@@ -1,6 +1,7 @@
 use crate::line::{Line, print_line, read_line};
-use crate::reader::{Reader, Refusal, Step};
-use crate::trace::{LINE_ROOM, Outcome, Sender, bad_line, character_line, turn_line};
+use crate::reader::{Reader, Refusal};
+use crate::trace::{Outcome, bad_line, character_line, turn_line};
+use wire::{Sender, Traced};
 
 // How many lines are read, and the number of the bad line, 0 for none.
 #[derive(Clone, Copy)]
@@ -9,11 +10,11 @@ struct Told {
     bad: u64,
 }
 
-fn note_step(told: &mut Told, step: Step) {
+fn note_step(told: &mut Told, step: Result<Option<Line>, Refusal>) {
     match step {
-        Step::More => {}
-        Step::Line(_) => told.good = told.good.saturating_add(1),
-        Step::Refused(Refusal::BadLine { line }) => told.bad = line,
+        Ok(None) => {}
+        Ok(Some(_)) => told.good = told.good.saturating_add(1),
+        Err(Refusal::BadLine { line }) => told.bad = line,
     }
 }
 
@@ -109,7 +110,7 @@ fn prints_back(line: &[u8]) -> bool {
         return false;
     };
     let length = match read {
-        Line::Send { program: _, length } => length as usize,
+        Line::Send { length, .. } => length as usize,
         _ => 0,
     };
     if length > 300 {
@@ -137,22 +138,51 @@ fn prints_lines(rt: HostRuntime) {
     }
 }
 
+fn is_turn(turn: u64, program: u8, outcome: Outcome, data: &[u8], line: &str) -> bool {
+    match turn_line(turn, program, outcome, data) {
+        Some(text) => text.as_str() == line,
+        None => false,
+    }
+}
+
 #[test]
 fn writes_traces(rt: HostRuntime) {
-    let mut out = [0u8; LINE_ROOM];
-    let n = character_line(1, Sender::Terminal, 0x2f, true, &mut out);
-    assert!(rt; is_line(&out, n, b"c,1,T,2F,!\n"));
-    let n = character_line(u64::MAX, Sender::Card, 0x0a, false, &mut out);
-    assert!(rt; is_line(&out, n, b"c,18446744073709551615,C,0A,.\n"));
-    let n = turn_line(1, 1, Outcome::Status(0x90, 0), b"", &mut out).unwrap_or(0);
-    assert!(rt; is_line(&out, n, b"j,1,1,9000,\n"));
-    let n = turn_line(2, 0, Outcome::Reset, b"", &mut out).unwrap_or(0);
-    assert!(rt; is_line(&out, n, b"j,2,0,reset,\n"));
-    let n = turn_line(3, 1, Outcome::Refusal(5), b"", &mut out).unwrap_or(0);
-    assert!(rt; is_line(&out, n, b"j,3,1,!5,\n"));
-    let n = turn_line(10, 255, Outcome::Status(0x6c, 0x1f), &[1, 0xab], &mut out).unwrap_or(0);
-    assert!(rt; is_line(&out, n, b"j,10,255,6C1F,01AB\n"));
-    assert_eq!(rt; turn_line(4, 1, Outcome::Reset, &[0; 257], &mut out), None);
-    let n = bad_line(3, &mut out);
-    assert!(rt; is_line(&out, n, b"x,3\n"));
+    assert_eq!(rt;
+        character_line(
+            1,
+            Traced {
+                sender: Sender::Terminal,
+                byte: 0x2f,
+                damaged: true
+            }
+        )
+        .as_str(),
+        "c,1,T,2F,!\n"
+    );
+    assert_eq!(rt;
+        character_line(
+            u64::MAX,
+            Traced {
+                sender: Sender::Card,
+                byte: 0x0a,
+                damaged: false
+            }
+        )
+        .as_str(),
+        "c,18446744073709551615,C,0A,.\n"
+    );
+    assert!(rt; is_turn(1, 1, Outcome::Status(0x90, 0), b"", "j,1,1,9000,\n"));
+    assert!(rt; is_turn(2, 0, Outcome::Reset, b"", "j,2,0,reset,\n"));
+    assert!(rt; is_turn(3, 1, Outcome::Refusal(5), b"", "j,3,1,!5,\n"));
+    assert!(rt;
+        is_turn(
+            10,
+            255,
+            Outcome::Status(0x6c, 0x1f),
+            &[1, 0xab],
+            "j,10,255,6C1F,01AB\n"
+        )
+    );
+    assert_eq!(rt; turn_line(4, 1, Outcome::Reset, &[0; 257]), None);
+    assert_eq!(rt; bad_line(3).as_str(), "x,3\n");
 }

@@ -1,5 +1,5 @@
 // How a turn ended: with a status, by a reset, or with the number of a refusal.
-#[derive(Clone, Copy)]
+#[derive(Clone, Copy, Debug, PartialEq, Eq)]
 pub enum Outcome {
     Status(u8, u8),
     Reset,

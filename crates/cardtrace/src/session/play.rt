@@ -1,8 +1,7 @@
-ghost use Rattle.std.specs.Prelude.{◌≡◌, ◌≤◌, length, Some};
+ghost use Rattle.std.specs.Prelude.{◌≡◌, Some};
 ghost use Rattle.apps.specs.FileValues.{files_app};
 ghost use Rattle.link.specs.Meant.{meant};
 ghost use Rattle.link.specs.Turns.{send, restart};
-ghost use Rattle.script.specs.Hex.{opened};
 ghost use Rattle.script.specs.Scripts.{following};
 ghost use Rattle.cardtrace.specs.Traces.{turn_played, entry_line};
 ghost use Rattle.cardtrace.specs.Sessions.{tracing, tracing_if, begins, takes, ends, step_played, TracesScripts};
@@ -10,48 +9,40 @@ ghost use Rattle.cardtrace.specs.Sessions.{tracing, tracing_if, begins, takes, e
 use crate::session::Session;
 use apdu::{Application, SettingRefusal};
 use apps::{Entry, Files};
+use arrayvec::ArrayString;
 use link::DirectCard;
 use script::line::Line;
-use script::reader::{Reader, Refusal, Step};
+use script::reader::{Reader, Refusal};
 use script::trace::{LINE_ROOM, Outcome, bad_line, turn_line};
 
-// One turn that sends a command to the card; its line goes to the front of `out`, and its length is given.
+// One turn that sends a command to the card, and its line.
 fn send_line(
     card: &mut DirectCard<Files>,
     turn: u64,
     program: u8,
     command: &[u8],
-    out: &mut [u8; LINE_ROOM],
-) -> usize
+) -> ArrayString<LINE_ROOM>
     ensures card { meant files_app card.exit.now ≡ (turn_played (record { card = meant files_app card.entry.now; turn = turn }) program (send command.now)).after.card }
-    ensures count { result ≡ length (turn_played (record { card = meant files_app card.entry.now; turn = turn }) program (send command.now)).text }
-    ensures bytes { out.new ≡ opened (turn_played (record { card = meant files_app card.entry.now; turn = turn }) program (send command.now)).text out.old }
+    ensures text { result.bytes ≡ (turn_played (record { card = meant files_app card.entry.now; turn = turn }) program (send command.now)).text }
 {
     let mut answer = [0u8; 256];
     match card.send(command, &mut answer) {
         Ok(p) => {
-            let count = p.0;
             let outcome = Outcome::Status(p.1.sw1(), p.1.sw2());
-            turn_line(turn, program, outcome, &answer[0..count], out).unwrap_or(0)
+            turn_line(turn, program, outcome, &answer[0..p.0]).unwrap_or_default()
         }
-        Err(e) => turn_line(turn, program, Outcome::Refusal(u8::from(e)), b"", out).unwrap_or(0),
+        Err(e) => turn_line(turn, program, Outcome::Refusal(u8::from(e)), b"").unwrap_or_default(),
     }
 }
 
 // One turn that resets the card, likewise.
-fn reset_line(
-    card: &mut DirectCard<Files>,
-    turn: u64,
-    program: u8,
-    out: &mut [u8; LINE_ROOM],
-) -> usize
+fn reset_line(card: &mut DirectCard<Files>, turn: u64, program: u8) -> ArrayString<LINE_ROOM>
     ensures card { meant files_app card.exit.now ≡ (turn_played (record { card = meant files_app card.entry.now; turn = turn }) program restart).after.card }
-    ensures count { result ≡ length (turn_played (record { card = meant files_app card.entry.now; turn = turn }) program restart).text }
-    ensures bytes { out.new ≡ opened (turn_played (record { card = meant files_app card.entry.now; turn = turn }) program restart).text out.old }
+    ensures text { result.bytes ≡ (turn_played (record { card = meant files_app card.entry.now; turn = turn }) program restart).text }
 {
     match card.reset() {
-        Ok(_) => turn_line(turn, program, Outcome::Reset, b"", out).unwrap_or(0),
-        Err(e) => turn_line(turn, program, Outcome::Refusal(u8::from(e)), b"", out).unwrap_or(0),
+        Ok(_) => turn_line(turn, program, Outcome::Reset, b"").unwrap_or_default(),
+        Err(e) => turn_line(turn, program, Outcome::Refusal(u8::from(e)), b"").unwrap_or_default(),
     }
 }
 
@@ -75,36 +66,31 @@ impl Session {
         })
     }
 
-    // Takes the next byte of the script. What is to be printed goes to the front of `out`, and its length is given.
-    pub fn push(&mut self, byte: u8, out: &mut [u8; LINE_ROOM]) -> usize
+    // Takes the next byte of the script, and gives what is to be printed.
+    pub fn push(&mut self, byte: u8) -> ArrayString<LINE_ROOM>
         ensures after { tracing self.new ≡ (takes (tracing self.old) byte).after }
-        ensures count { result ≡ length (takes (tracing self.old) byte).text }
-        ensures fits { result ≤ 546 }
-        ensures bytes { out.new ≡ opened (takes (tracing self.old) byte).text out.old }
+        ensures text { result.bytes ≡ (takes (tracing self.old) byte).text }
     {
         let step = self.reader.push(byte);
-        self.play(step, out)
+        self.play(step)
     }
 
     // Plays what the reader told.
-    fn play(&mut self, step: Step, out: &mut [u8; LINE_ROOM]) -> usize
+    fn play(&mut self, step: Result<Option<Line>, Refusal>) -> ArrayString<LINE_ROOM>
         ensures after { tracing self.new ≡ record { reading = (tracing self.old).reading; playing = (step_played (tracing self.old).playing step (tracing self.old).reading.command).after } }
-        ensures count { result ≡ length (step_played (tracing self.old).playing step (tracing self.old).reading.command).text }
-        ensures bytes { out.new ≡ opened (step_played (tracing self.old).playing step (tracing self.old).reading.command).text out.old }
+        ensures text { result.bytes ≡ (step_played (tracing self.old).playing step (tracing self.old).reading.command).text }
     {
         match step {
-            Step::More => 0,
-            Step::Refused(Refusal::BadLine { line }) => bad_line(line, out),
-            Step::Line(Line::Link(_)) => 0,
-            Step::Line(Line::Damage(_)) => 0,
-            Step::Line(Line::Send { program, length: _ }) => {
+            Ok(None | Some(Line::Link(_) | Line::Damage(_))) => ArrayString::new(),
+            Ok(Some(Line::Send { program, .. })) => {
                 let turn = self.count_turn();
-                send_line(&mut self.card, turn, program, self.reader.command(), out)
+                send_line(&mut self.card, turn, program, self.reader.command())
             }
-            Step::Line(Line::Reset { program }) => {
+            Ok(Some(Line::Reset { program })) => {
                 let turn = self.count_turn();
-                reset_line(&mut self.card, turn, program, out)
+                reset_line(&mut self.card, turn, program)
             }
+            Err(Refusal::BadLine { line }) => bad_line(line),
         }
     }
 
@@ -119,13 +105,11 @@ impl Session {
     }
 
     // Takes the end of the script, likewise.
-    pub fn finish(&mut self, out: &mut [u8; LINE_ROOM]) -> usize
+    pub fn finish(&mut self) -> ArrayString<LINE_ROOM>
         ensures after { tracing self.new ≡ (ends (tracing self.old)).after }
-        ensures count { result ≡ length (ends (tracing self.old)).text }
-        ensures fits { result ≤ 546 }
-        ensures bytes { out.new ≡ opened (ends (tracing self.old)).text out.old }
+        ensures text { result.bytes ≡ (ends (tracing self.old)).text }
     {
         let step = self.reader.finish();
-        self.play(step, out)
+        self.play(step)
     }
 }

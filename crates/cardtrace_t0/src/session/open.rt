@@ -1,25 +1,15 @@
 ghost use Rattle.std.specs.Prelude.{◌≡◌};
 ghost use Rattle.apps.specs.FileValues.{files_app};
-ghost use Rattle.cardtrace_t0.specs.Cards.{first_shelf, settings_said, style_said};
+ghost use Rattle.cardtrace_t0.specs.Cards.{first_shelf, settings_said};
 ghost use Rattle.cardtrace_t0.specs.Plays.{opening, linked_up, marked, opened};
 ghost use Rattle.cardtrace_t0.specs.Sessions.{stand_of};
 
 use crate::session::{Opening, Stand};
 use apps::{Entry, Files};
 use link::DirectLink;
-use script::line::{Protocol, Settings, Style};
+use script::line::{Protocol, Settings};
 use t0link::T0Link;
 use wire::MarkedLine;
-
-// The card's style as the link line says it.
-fn style(style: Style) -> t0::Style
-    ensures { result ≡ style_said style }
-{
-    match style {
-        Style::Whole => t0::Style::Whole,
-        Style::Bytewise => t0::Style::Bytewise,
-    }
-}
 
 // The one card of the program: file 2F01, which holds 41 42.
 fn first_card() -> Files
@@ -67,7 +57,7 @@ impl Opening {
         match self.settings.protocol {
             Protocol::T0 => match t0::Settings::new(
                 self.settings.waits.min(15),
-                style(self.settings.style),
+                self.settings.style,
             ) {
                 Ok(settings) => Stand::OverT0(T0Link::new(settings, first_card(), line)),
                 Err(_) => unreachable(),

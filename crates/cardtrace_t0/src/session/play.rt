@@ -9,7 +9,7 @@ use crate::session::{Session, Stand, Trouble};
 use apdu::Application;
 use link::Link;
 use script::line::Line;
-use script::reader::{Reader, Refusal, Step};
+use script::reader::{Reader, Refusal};
 use std::mem::replace;
 
 impl Stand {
@@ -95,25 +95,29 @@ impl Session {
     }
 
     // Plays what the reader told.
-    fn play(&mut self, step: Step, out: &mut Vec<u8>) -> Result<(), Trouble>
+    fn play(
+        &mut self,
+        step: Result<Option<Line>, Refusal>,
+        out: &mut Vec<u8>,
+    ) -> Result<(), Trouble>
         ensures after { tracing self.new ≡ record { reading = (tracing self.old).reading; playing = (step_played (tracing self.old).playing step (tracing self.old).reading.command).after } }
         ensures text { OnOk result (out.new.items ≡ out.old.items ++ (step_played (tracing self.old).playing step (tracing self.old).reading.command).text) }
     {
         match step {
-            Step::More => Ok(()),
-            Step::Refused(Refusal::BadLine { line }) => write_bad(line, out),
-            Step::Line(Line::Link(settings)) => {
+            Ok(None) => Ok(()),
+            Err(Refusal::BadLine { line }) => write_bad(line, out),
+            Ok(Some(Line::Link(settings))) => {
                 let stand = replace(&mut self.stand, Stand::Unlinked);
                 self.stand = stand.link(settings);
                 Ok(())
             }
-            Step::Line(Line::Damage(position)) => {
+            Ok(Some(Line::Damage(position))) => {
                 let stand = replace(&mut self.stand, Stand::Unlinked);
                 self.stand = stand.mark(position);
                 Ok(())
             }
-            Step::Line(Line::Send { program, length: _ }) => self.play_send(program, out),
-            Step::Line(Line::Reset { program }) => self.play_reset(program, out),
+            Ok(Some(Line::Send { program, .. })) => self.play_send(program, out),
+            Ok(Some(Line::Reset { program })) => self.play_reset(program, out),
         }
     }
 

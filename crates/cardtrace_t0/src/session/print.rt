@@ -12,7 +12,7 @@ ghost use Rattle.cardtrace_t0.specs.Traces.{free, character_lines, entry_line, t
 use crate::session::Trouble;
 use apdu::{Refusal, Status};
 use link::Link;
-use script::trace::{LINE_ROOM, Outcome, bad_line, character_line, turn_line};
+use script::trace::{Outcome, bad_line, character_line, turn_line};
 use wire::{Record, Sender, Traced};
 
 // The places of the trace of one turn: more than any turn has characters where at most 64 are damaged.
@@ -25,12 +25,11 @@ const BLANK: Traced = Traced {
     damaged: false,
 };
 
-// Adds the first bytes of a line's memory to the text.
-pub(crate) fn write(out: &mut Vec<u8>, line: &[u8; LINE_ROOM], length: usize) -> Result<(), Trouble>
-    ensures { OnOk result (out.new.items ≡ out.old.items ++ take length line.now) }
+// Adds a line to the text.
+fn write(out: &mut Vec<u8>, line: &[u8]) -> Result<(), Trouble>
+    ensures { OnOk result (out.new.items ≡ out.old.items ++ line.now) }
 {
-    let count = length.min(LINE_ROOM);
-    match out.extend_from_slice(&line[0..count]) {
+    match out.extend_from_slice(line) {
         Ok(_) => Ok(()),
         Err(_) => Err(Trouble::Memory),
     }
@@ -40,15 +39,7 @@ pub(crate) fn write(out: &mut Vec<u8>, line: &[u8; LINE_ROOM], length: usize) ->
 fn write_character(turn: u64, character: Traced, out: &mut Vec<u8>) -> Result<(), Trouble>
     ensures { OnOk result (out.new.items ≡ out.old.items ++ character_line turn character.sender character.byte character.damaged) }
 {
-    let mut line = [0u8; LINE_ROOM];
-    let length = character_line(
-        turn,
-        character.sender,
-        character.byte,
-        character.damaged,
-        &mut line,
-    );
-    write(out, &line, length)
+    write(out, character_line(turn, character).as_bytes())
 }
 
 // Adds the lines of characters to the text.
@@ -71,9 +62,10 @@ fn write_turn(
 ) -> Result<(), Trouble>
     ensures { OnOk result (out.new.items ≡ out.old.items ++ unwrap_or (turn_text turn program outcome «data».now) []) }
 {
-    let mut line = [0u8; LINE_ROOM];
-    let length = turn_line(turn, program, outcome, data, &mut line).unwrap_or(0);
-    write(out, &line, length)
+    match turn_line(turn, program, outcome, data) {
+        Some(line) => write(out, line.as_bytes()),
+        None => Ok(()),
+    }
 }
 
 // Adds the line of a turn that sent a command to the text.
@@ -115,9 +107,7 @@ fn write_reset(
 pub(crate) fn write_bad(line: u64, out: &mut Vec<u8>) -> Result<(), Trouble>
     ensures { OnOk result (out.new.items ≡ out.old.items ++ bad_line line) }
 {
-    let mut text = [0u8; LINE_ROOM];
-    let length = bad_line(line, &mut text);
-    write(out, &text, length)
+    write(out, bad_line(line).as_bytes())
 }
 
 // The characters that crossed, where the trace holds them all.

@@ -1,7 +1,5 @@
-use Rattle.std.proofs.Common.{◌≡◌, ℕ, ◌≤◌, List, length, Option, unwrap_or, ap, ◌∙◌, rules}
-use Rattle.std.specs.Option.{option_map}
-use Rattle.script.specs.Hex.{opened_by}
-use Rattle.cardtrace.proofs.Turning.{sent_within, done_line}
+use Rattle.std.proofs.Common.{◌≡◌, ◌≤◌, length, ◌∙◌, rules}
+use Rattle.cardtrace.proofs.Turning.{sent_within, done_line, given}
 use Rattle.cardtrace.proofs.session.play.send_line.Goals as goal
 
 pub slice_bounds-turn_line-end : goal.slice_bounds-turn_line-end
@@ -15,6 +13,5 @@ returns-in-Ok c =
     let text = done_line c.args.turn c.args.program c.in-Ok.p.0 c.sw1.result c.sw2.result c.in-Ok.p.1 c.send.new.answer _ c.in-Ok.ensures.gave long c.sw1.ensures c.sw2.ensures in
     record {
       card = c.in-Ok.ensures.after;
-      count = c.unwrap_or.ensures ∙ ap (λ (o : Option ℕ). unwrap_or o 0) (c.turn_line.ensures.count ∙ ap (option_map length) text);
-      bytes = c.turn_line.ensures.bytes ∙ ap (λ (o : Option (List ℕ)). opened_by o c.args.out.now) text;
+      text = given c.turn_line.result _ c.unwrap_or_default.result _ c.unwrap_or_default.ensures (c.turn_line.ensures ∙ text);
     }

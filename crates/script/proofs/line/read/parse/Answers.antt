@@ -1,6 +1,6 @@
 use Rattle.std.proofs.Common.{rules}
 use Rattle.script.specs.Lines.{line_of}
-use Rattle.script.proofs.line.read.read_line.Goals as goal
+use Rattle.script.proofs.line.read.parse.Goals as goal
 
 pub returns-in_err-word : goal.returns-in_err-word
 unfolding line_of
