@@ -54,7 +54,7 @@ impl<A: Application> Card<A> {
         ensures settings { self.new.settings ≡ self.old.settings }
     {
         if let Kept::By6C(asked, answer) = self.kept {
-            if asked == header && p3 as usize == answer.last as usize + 1 {
+            if asked == header && usize::from(p3) == answer.count() {
                 self.give(header.ins, answer.last, answer.status);
                 return;
             }

@@ -12,7 +12,7 @@ fn mover(style: Style, ins: u8) -> u8
 {
     match style {
         Style::Whole => ins,
-        Style::Bytewise => 255 - ins,
+        Style::Bytewise => !ins,
     }
 }
 
@@ -25,30 +25,29 @@ impl Giving {
             return Out::after_waits(settings, Then::Close(self.status.sw1(), self.status.sw2()));
         }
         let next = Giving {
-            ins: self.ins,
             at: self.at + 1,
-            last: self.last,
-            status: self.status,
+            ..self
         };
         match settings.style() {
-            Style::Whole => Out {
-                waits: 0,
-                then: Then::Give(next),
-            },
+            Style::Whole => Out::at_once(Then::Give(next)),
             Style::Bytewise => Out::after_waits(settings, Then::Announce(next)),
         }
     }
 }
 
 impl Out {
+    // This and no bytes 60 before it.
+    fn at_once(then: Then) -> Out
+        ensures { result ≡ record { waits = 0; then = then } }
+    {
+        Out { waits: 0, then }
+    }
+
     // Nothing is to be sent.
     pub(super) fn nothing() -> Out
         ensures { result ≡ record { waits = 0; then = Then.Nothing } }
     {
-        Out {
-            waits: 0,
-            then: Then::Nothing,
-        }
+        Out::at_once(Then::Nothing)
     }
 
     // A procedure byte and what follows it, after the set number of bytes 60.
@@ -76,31 +75,22 @@ impl Out {
         if self.waits > 0 {
             let out = Out {
                 waits: self.waits - 1,
-                then: self.then,
+                ..self
             };
             return (Some(0x60), out);
         }
         match self.then {
             Then::Nothing => (None, self),
             Then::Ask(ins) => (Some(mover(settings.style(), ins)), Out::nothing()),
-            Then::Announce(giving) => {
-                let out = Out {
-                    waits: 0,
-                    then: Then::Give(giving),
-                };
-                (Some(mover(settings.style(), giving.ins)), out)
-            }
+            Then::Announce(giving) => (
+                Some(mover(settings.style(), giving.ins)),
+                Out::at_once(Then::Give(giving)),
+            ),
             Then::Give(giving) => (
                 Some(answer[giving.at as usize]),
                 giving.after(settings, answer),
             ),
-            Then::Close(sw1, sw2) => {
-                let out = Out {
-                    waits: 0,
-                    then: Then::End(sw2),
-                };
-                (Some(sw1), out)
-            }
+            Then::Close(sw1, sw2) => (Some(sw1), Out::at_once(Then::End(sw2))),
             Then::End(sw2) => (Some(sw2), Out::nothing()),
         }
     }

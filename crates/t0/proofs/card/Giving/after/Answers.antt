@@ -13,7 +13,8 @@ returns-then-self c =
 pub returns-in-Whole : goal.returns-in-Whole
 returns-in-Whole c =
     let k : c.args.self.last < length c.args.answer.now = omega arith in
-    gives_whole c.args.settings c.args.answer.now c.args.self (sym c.in-Whole.ensures) c.if-self.false k
+    ap (pending_of c.args.settings c.args.answer.now) c.at_once.ensures
+    ∙ gives_whole c.args.settings c.args.answer.now c.args.self (sym c.in-Whole.ensures) c.if-self.false k
 
 pub returns-in-Bytewise : goal.returns-in-Bytewise
 returns-in-Bytewise c =
