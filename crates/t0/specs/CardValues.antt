@@ -1,4 +1,4 @@
-use Rattle.std.specs.Prelude.{ℕ, ◌+◌, ◌-◌, ◌==◌, Option, Some, None, Bool, true, false, cond, ◌||◌, List, [], ◌∷◌, ◌++◌, length, take, drop, replicate, nat_le, nat_lt, slice_index}
+use Rattle.std.specs.Prelude.{◌≡◌, ℕ, ◌+◌, ◌-◌, ◌==◌, Option, Some, None, Bool, true, false, cond, ◌||◌, List, [], ◌∷◌, ◌++◌, length, take, drop, replicate, nat_le, nat_lt, slice_index}
 use Rattle.apdu.specs.Applications.{App, Reply}
 use Rattle.apdu.specs.declared.status.Status.{Status}
 use Rattle.apdu.specs.declared.header.Header.{Header}
@@ -87,6 +87,11 @@ meant app c = record {
   stage = stage_of c.body c.receiving;
   pending = pending_of c.settings c.answer c.out;
 }
+
+-- The card becomes what this step makes of it, under its settings, which stay.
+pub record Becomes {V : Type 0} (app : App V) (old new : Card V) (step : Settings → cards.Card app.State → cards.Card app.State) : Type 0 where
+  pub card : meant app new ≡ step old.settings (meant app old)
+  pub settings : new.settings ≡ old.settings
 
 -- So many bytes are wanted of an answer: with as many or more, that many and the status, and nothing is held; else 6C and the
 -- count, and this is held.

@@ -1,7 +1,7 @@
 ghost use Rattle.std.specs.Prelude.{◌≡◌, ◌+◌, ◌≤◌, take};
 ghost use Rattle.apdu.specs.Commands.{wanted};
 ghost use Rattle.t0.specs.Cards.{runs_inward, runs_outward};
-ghost use Rattle.t0.specs.CardValues.{meant, held_of, answer_of, served, written};
+ghost use Rattle.t0.specs.CardValues.{Becomes, held_of, answer_of, served, written};
 
 use crate::card::{Answer, Card, Kept};
 use crate::p3::as_p3;
@@ -45,8 +45,7 @@ impl Answer {
 impl<A: Application> Card<A> {
     // P3 wants bytes of an answer: they are given where there are as many; else 6C says how many there are, and this is held.
     pub(super) fn serve(&mut self, ins: u8, p3: u8, answer: Answer, kept: Kept)
-        ensures card { meant A.Application.means self.new ≡ served self.old.settings (A.Application.means.state self.old.app) ins (wanted p3) (answer_of self.old.answer answer) (held_of self.old.answer kept) }
-        ensures settings { self.new.settings ≡ self.old.settings }
+        ensures { Becomes A.Application.means self.old self.new (λ s c. served s c.state ins (wanted p3) (answer_of self.old.answer answer) (held_of self.old.answer kept)) }
     {
         let last = last_wanted(p3);
         if last <= answer.last {
@@ -58,8 +57,7 @@ impl<A: Application> Card<A> {
 
     // Runs an outward command.
     pub(super) fn run_outward(&mut self, header: Header, p3: u8)
-        ensures card { meant A.Application.means self.new ≡ runs_outward A.Application.means self.old.settings (A.Application.means.state self.old.app) header p3 }
-        ensures settings { self.new.settings ≡ self.old.settings }
+        ensures { Becomes A.Application.means self.old self.new (λ s c. runs_outward A.Application.means s c.state header p3) }
     {
         let (count, status) = self.app.run(header, &[], &mut self.answer);
         match Answer::written(count, status) {
@@ -70,8 +68,7 @@ impl<A: Application> Card<A> {
 
     // Runs an inward command on the first bytes of the data.
     pub(super) fn run_inward(&mut self, header: Header, count: u8)
-        ensures card { meant A.Application.means self.new ≡ runs_inward A.Application.means self.old.settings (A.Application.means.state self.old.app) header (take count self.old.body) }
-        ensures settings { self.new.settings ≡ self.old.settings }
+        ensures { Becomes A.Application.means self.old self.new (λ s c. runs_inward A.Application.means s c.state header (take count self.old.body)) }
     {
         let (count, status) = self
             .app
