@@ -5,5 +5,5 @@ ghost use Rattle.t0.specs.Procedures.{as_p3};
 pub(crate) fn as_p3(n: usize) -> u8
     ensures { result ≡ as_p3 n }
 {
-    if n < 256 { n as u8 } else { 0 }
+    u8::try_from(n).unwrap_or(0)
 }

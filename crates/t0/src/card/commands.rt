@@ -11,7 +11,15 @@ use apdu::{Application, Header};
 fn is_get_response(header: Header) -> bool
     ensures { result ≡ is_get_response header }
 {
-    header.ins == 0xc0 && header.p1 == 0 && header.p2 == 0
+    matches!(
+        header,
+        Header {
+            ins: 0xc0,
+            p1: 0,
+            p2: 0,
+            ..
+        }
+    )
 }
 
 impl<A: Application> Card<A> {
@@ -50,13 +58,14 @@ impl<A: Application> Card<A> {
     fn respond(&mut self, header: Header, p3: u8)
         ensures { Becomes A.Application.means self.old self.new (λ s c. answered A.Application.means s c.state c.held header p3) }
     {
-        if let Kept::By6C(asked, answer) = self.kept {
-            if asked == header && usize::from(p3) == answer.count() {
-                self.give(header.ins, answer.last, answer.status);
-                return;
-            }
+        if let Kept::By6C(asked, answer) = self.kept
+            && asked == header
+            && p3 as usize == answer.count()
+        {
+            self.give(header.ins, answer.last, answer.status);
+        } else {
+            self.begin(header, p3);
         }
-        self.begin(header, p3);
     }
 
     // A whole header.

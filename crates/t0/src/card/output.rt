@@ -1,4 +1,4 @@
-ghost use Rattle.std.specs.Prelude.{◌≡◌};
+ghost use Rattle.std.specs.Prelude.{◌≡◌, ℕ, List, length};
 ghost use Rattle.t0.specs.Cards.{next_of, rest_of};
 ghost use Rattle.t0.specs.Procedures;
 ghost use Rattle.t0.specs.CardValues.{pending_of, given_rest, has_some};
@@ -18,8 +18,8 @@ fn mover(style: Style, ins: u8) -> u8
 
 impl Giving {
     // What follows the byte that is next.
-    fn after(self, settings: Settings, answer: &[u8; 256]) -> Out
-        ensures { pending_of settings answer.now result ≡ given_rest settings answer.now self }
+    fn after(self, settings: Settings) -> Out
+        ensures { (memory : List ℕ) → length memory ≡ 256 → pending_of settings memory result ≡ given_rest settings memory self }
     {
         if self.at >= self.last {
             return Out::after_waits(settings, Then::Close(self.status.sw1(), self.status.sw2()));
@@ -64,7 +64,7 @@ impl Out {
     pub(super) fn has_some(self) -> bool
         ensures { result ≡ has_some self }
     {
-        self.waits > 0 || !matches!(self.then, Then::Nothing)
+        self.waits > 0 || self.then != Then::Nothing
     }
 
     // The next character, if there is one, and what is still to be sent after it.
@@ -86,10 +86,7 @@ impl Out {
                 Some(mover(settings.style(), giving.ins)),
                 Out::at_once(Then::Give(giving)),
             ),
-            Then::Give(giving) => (
-                Some(answer[giving.at as usize]),
-                giving.after(settings, answer),
-            ),
+            Then::Give(giving) => (Some(answer[giving.at as usize]), giving.after(settings)),
             Then::Close(sw1, sw2) => (Some(sw1), Out::at_once(Then::End(sw2))),
             Then::End(sw2) => (Some(sw2), Out::nothing()),
         }

@@ -11,7 +11,7 @@ use apdu::{Application, Header, Status};
 fn opening(body: &[u8; 255], count: u8) -> &[u8]
     ensures { result.now ≡ take count body.now }
 {
-    &body[..usize::from(count)]
+    &body[..count as usize]
 }
 
 // The place of the last byte that P3 wants, which is one less than their count; 00 wants 256.
@@ -38,7 +38,7 @@ impl Answer {
     pub(super) fn count(self) -> usize
         ensures { result ≡ self.last + 1 }
     {
-        usize::from(self.last) + 1
+        self.last as usize + 1
     }
 }
 

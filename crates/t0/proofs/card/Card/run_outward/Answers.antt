@@ -11,8 +11,8 @@ returns-in-Some g c =
     record {
       card =
           outward_so (app.runs (app.state c.args.self.now.app) h.cla h.ins h.p1 h.p2 []) (app.state c.run-count.new.self) c.run-count.new.buffer c.args.self.now.answer
-              c.run-count.result.0 c.run-count.result.1 c.in-Some.answer
-              (record { state = c.run-count.ensures.state; answer = c.run-count.ensures.answer; count = c.run-count.ensures.count; status = c.run-count.ensures.status })
-              (sym c.written.ensures ∙ c.in-Some.is) c.args.self.now.settings (meant app c.serve.new.self) h (wanted c.args.p3) c.serve.ensures.card;
+          c.run-count.result.0 c.run-count.result.1 c.in-Some.answer
+          (record { state = c.run-count.ensures.state; answer = c.run-count.ensures.answer; count = c.run-count.ensures.count; status = c.run-count.ensures.status })
+          (sym c.written.ensures ∙ c.in-Some.is) c.args.self.now.settings (meant app c.serve.new.self) h (wanted c.args.p3) c.serve.ensures.card;
       settings = c.serve.ensures.settings;
     }
