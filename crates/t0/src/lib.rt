@@ -4,6 +4,7 @@
 
 mod card;
 mod carry;
+mod p3;
 mod settings;
 mod talk;
 mod terminal;

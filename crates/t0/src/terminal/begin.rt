@@ -1,19 +1,12 @@
 ghost use Rattle.std.specs.Prelude.{◌≡◌, cond};
 ghost use Rattle.apdu.specs.Judging.{parts, judged};
 ghost use Rattle.apdu.specs.Statuses.{done};
-ghost use Rattle.t0.specs.Procedures.{as_p3};
 ghost use Rattle.t0.specs.Terminals.{sends, fetches};
 ghost use Rattle.t0.specs.Starts.{started, start_of, fetched_by, discarded_by};
 
+use crate::p3::as_p3;
 use crate::terminal::{Begun, Discarded, Fetched, Holding, Kind, Phase, Ready, Token, Waiting};
 use apdu::{Command, Header, Status, judge};
-
-// A count as P3: 256 is 00.
-fn as_p3(n: usize) -> u8
-    ensures { result ≡ as_p3 n }
-{
-    if n < 256 { n as u8 } else { 0 }
-}
 
 impl Ready {
     // A terminal that may send a command.
