@@ -1,4 +1,4 @@
-use Rattle.std.proofs.Common.{◌≡◌, ℕ, ◌+◌, ◌-◌, ◌≤◌, min, List, [], ◌∷◌, ◌++◌, length, take, drop, Some, None, Ok, Err, Option, Result, sym, refl, ap, ◌∙◌, subst, append-nil, arith, length-drop}
+use Rattle.std.proofs.Common.{◌≡◌, ℕ, ◌+◌, ◌-◌, min, List, [], ◌∷◌, ◌++◌, length, take, drop, Some, None, Ok, Err, Option, Result, sym, refl, ap, ◌∙◌, subst, append-nil, arith, length-drop}
 use borrow.Rule.Slice.PartMut.{put_mid}
 use Rattle.std.proofs.lemmas.List.{drop_all, take_rest, take_min, drop_min}
 use Rattle.apdu.specs.declared.refusal.Refusal.{Refusal}
@@ -11,7 +11,6 @@ use Rattle.link.specs.Rows.{row_of, row_of_result}
 use Rattle.link.specs.Runs.{TurnRuns}
 use Rattle.link.specs.Turns.{Gave, gives, restarted, denied, Did, taken}
 use Rattle.link.specs.declared.row.Row.{Row}
-use Rattle.link.proofs.Placing.{Placed, taken_fits}
 
 -- A row is as long as what its turn takes up.
 row_length : (program place : ℕ) (g : Gave) → (row_of program place g).length ≡ taken g
@@ -43,12 +42,6 @@ module _ {M : Type 0} (d : Did M) (m : M) (left : List ℕ) (r : Result (Option 
   -- The row of a turn is that of what it gave.
   row_taken : Takes d m left r → row ≡ row_of_result program place r → row ≡ row_of program place d.gave
   row_taken h e = e ∙ row_is program place r left (h.count ∙ ap taken (sym h.gave)) ∙ ap (row_of program place) h.gave
-
-  -- It is no longer than the buffer that the turn left.
-  pub row_fits : Placed d.gave d.buffer → Takes d m left r → row ≡ row_of_result program place r → row.length ≤ length left
-  row_fits p h e =
-      let size : row.length ≡ taken d.gave = ap (λ (x : Row). x.length) (row_taken h e) ∙ row_length program place d.gave in
-      omega (arith, size, taken_fits d.gave d.buffer p, ap length h.wrote)
 
   -- A turn of a run.
   pub turn_runs : (t u : Record Traced) (space final : List ℕ) (j k : Record Row)

@@ -1,11 +1,11 @@
-use Rattle.std.specs.Prelude.{◌≡◌, ℕ, ◌+◌, cond, List, [], ◌∷◌, ◌++◌, length, take, Ok, Err, Result, ◌==◌, nat_lt}
+use Rattle.std.specs.Prelude.{◌≡◌, ℕ, ◌+◌, cond, List, [], ◌∷◌, ◌++◌, length, take, Ok, Err, Result, nat_lt}
 use Rattle.apdu.specs.Applications.{App}
 use Rattle.wire.specs.Records.{Grew, kept, free_places}
 use Rattle.wire.specs.declared.record.Record.{Record}
 use Rattle.wire.specs.declared.traced.Traced.{Traced}
 use Rattle.link.specs.Meaning.{Linked, linked}
 use Rattle.link.specs.Rows.{row_of, rows}
-use Rattle.link.specs.Turns.{Did, Played, called, Call, placed, taken, all_taken, whole_trace}
+use Rattle.link.specs.Turns.{Did, Played, called, Call, taken, all_taken, whole_trace}
 use Rattle.link.specs.declared.refusal.RunRefusal.{RunRefusal}
 use Rattle.link.specs.declared.refusal.RunRefusal.TheVariants.{JournalFull}
 use Rattle.link.specs.declared.row.Row.{Row}

@@ -12,7 +12,6 @@ mod link;
 mod refusal;
 mod row;
 mod running;
-mod taking;
 #[cfg(test)]
 mod tests;
 mod turn;
@@ -20,9 +19,8 @@ mod turn;
 pub use direct::DirectCard;
 pub use direct_link::DirectLink;
 pub use laws::{direct_card_law, examples_stand, rows_give_entries, runs_compose, turns_told_true};
-pub use link::Link;
+pub use link::{Link, take};
 pub use refusal::RunRefusal;
 pub use row::Row;
 pub use running::run;
-pub use taking::take;
 pub use turn::{Order, Turn};

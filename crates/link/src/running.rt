@@ -3,10 +3,9 @@ ghost use Rattle.link.specs.Meaning.{linked};
 ghost use Rattle.link.specs.Runs.{TurnRuns, Runs};
 ghost use Rattle.link.specs.Turns.{ordered};
 
-use crate::link::Link;
+use crate::link::{Link, take};
 use crate::refusal::RunRefusal;
 use crate::row::Row;
-use crate::taking::take;
 use crate::turn::Turn;
 use wire::{Record, Traced};
 

@@ -4,10 +4,9 @@ ghost use Rattle.std.proofs.Common.{rules};
 
 use crate::direct::DirectCard;
 use crate::direct_link::DirectLink;
-use crate::link::Link;
+use crate::link::{Link, take};
 use crate::row::Row;
 use crate::running::run;
-use crate::taking::take;
 use crate::turn::{Order, Turn};
 use apdu::{Application, Header, Refusal, Status};
 use wire::{Record, Sender, Traced};
