@@ -4,5 +4,4 @@ pub mod PurseLaws
 pub mod FilePlaces
 pub mod FileShelves
 pub mod FileContents
-pub mod FileTables
 pub mod PurseSums

@@ -2,8 +2,8 @@ use Rattle.std.proofs.Common.{◌≡◌, ap, ◌∙◌, w32, SFits, rules}
 use Rattle.std.proofs.lemmas.Int.{to_z-of_z}
 use Rattle.apps.specs.Purse.{balance}
 use Rattle.apps.proofs.PurseSums.{run_fits, run_whole}
-use Rattle.apps.proofs.PurseBalances.{balance_joined, sound_whole, cents_of, cents_limit, cents_fit}
-use Rattle.apps.proofs.PurseLaws.{credit_adds, debit_takes, refusal_keeps}
+use Rattle.apps.proofs.PurseBalances.{sound_whole, cents_of, cents_limit, cents_fit}
+use Rattle.apps.proofs.PurseLaws.{credit_adds, debit_takes}
 use Rattle.apps.proofs.purse.Purse.balance.Goals as goal
 use Rattle.apps.proofs.purse.Purse.balance.Goals.{After-sum-sum}
 
@@ -21,16 +21,18 @@ overflow_cast-result c =
     let f : SFits w32 c.sum-sum.result = search rules in
     simp to_z-of_z (cents_fit _ _ (summed c) (sound_whole _ c.self.invariant.sound))
 
-pub returns : goal.returns
-returns c =
+pub returns-clause-value : goal.returns-clause-value
+returns-clause-value c =
     let f : SFits w32 c.sum-sum.result = search rules in
-    let w = sound_whole _ c.self.invariant.sound in
-    simp to_z-of_z
-    (record {
-      value = cents_of _ _ (summed c) w ∙ ap balance c.self.view_is;
-      limits = cents_limit _ _ (summed c) w;
-      joining = balance_joined;
-      credit = credit_adds;
-      debit = debit_takes;
-      refusal = refusal_keeps;
-    })
+    simp to_z-of_z (cents_of _ _ (summed c) (sound_whole _ c.self.invariant.sound) ∙ ap balance c.self.view_is)
+
+pub returns-clause-limits : goal.returns-clause-limits
+returns-clause-limits c =
+    let f : SFits w32 c.sum-sum.result = search rules in
+    simp to_z-of_z (cents_limit _ _ (summed c) (sound_whole _ c.self.invariant.sound))
+
+pub returns-clause-credit : goal.returns-clause-credit
+returns-clause-credit c = credit_adds
+
+pub returns-clause-debit : goal.returns-clause-debit
+returns-clause-debit c = debit_takes
