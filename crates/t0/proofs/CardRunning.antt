@@ -1,15 +1,15 @@
-use Rattle.std.proofs.Common.{◌≡◌, ℕ, ◌+◌, ◌-◌, ◌<◌, ◌≤◌, Bool, true, false, cond, leb, List, [], ◌++◌, length, take, drop, None, Some, sym, refl, ap, ◌∙◌, arith}
+use Rattle.std.proofs.Common.{◌≡◌, ℕ, ◌+◌, ◌-◌, Bool, true, false, cond, List, length, take, drop, None, Some, sym, refl, ap, ◌∙◌, arith}
 use Rattle.std.specs.Prelude.{◌==◌}
-use Rattle.std.proofs.lemmas.List.{length-take, take_at, take-take}
-use Rattle.std.proofs.lemmas.Bool.{cond-true, cond-false, eqb-false, ne_eqb, le-leb}
+use Rattle.std.proofs.lemmas.List.{take_at}
+use Rattle.std.proofs.lemmas.Bool.{cond-false, eqb-false, ne_eqb}
 use Rattle.apdu.specs.Applications.{Outcome, Reply, opened}
 use Rattle.apdu.specs.declared.header.Header.{Header}
 use Rattle.apdu.specs.declared.status.Status.{Status}
 use Rattle.t0.specs.declared.settings.Settings.{Settings}
 use Rattle.t0.specs.declared.card.Answer.{Answer}
-use Rattle.t0.specs.Cards.{Card, Held, nothing, by61, by6C, says, outward_ran, inward_ran}
+use Rattle.t0.specs.Cards.{Card, by61, by6C, says, outward_ran, inward_ran}
 use Rattle.t0.specs.CardValues.{answer_of, served, written}
-use Rattle.t0.specs.Procedures.{as_p3, closes, moves_out, says_status}
+use Rattle.t0.specs.Procedures.{as_p3, closes}
 
 -- What a run left: the state, the memory, the count and the status are those of this outcome.
 pub record Ran {S : Type 0} (o : Outcome S) (x : S) (memory old : List ℕ) (n : ℕ) (sw : Status) : Type 0 where
@@ -64,13 +64,3 @@ module _ {S : Type 0} (o : Outcome S) (x : S) (memory old : List ℕ) (n : ℕ) 
     where
       counted : a.last + 1 ≡ length o.reply.answer
       counted = omega (arith, r.count, (is_written n status a w).0, ap (λ (b : Answer). b.last) (is_written n status a w).1)
-
--- Where an answer has as many bytes as are wanted, these are the first bytes of the memory.
-pub serves_wanted : {S : Type 0} (c : Card S) (s : Settings) (x : S) (ins last n : ℕ) (memory : List ℕ) (a : Answer) (held : Held)
-    → last + 1 ≡ n → last ≤ a.last → a.last < length memory
-    → c ≡ says x nothing (moves_out s ins (take (last + 1) memory) ++ says_status s a.status) → c ≡ served s x ins n (answer_of memory a) held
-serves_wanted {S} c s x ins last n memory a held e h k f =
-    f
-    ∙ ap (λ (l : List ℕ). says x nothing (moves_out s ins l ++ says_status s a.status))
-    (ap (λ (i : ℕ). take i memory) e ∙ sym (take-take n (a.last + 1) memory (omega arith)))
-    ∙ sym (cond-true (leb n (length (take (a.last + 1) memory))) _ _ (le-leb n (length (take (a.last + 1) memory)) (omega (arith, length-take (a.last + 1) memory))))

@@ -11,15 +11,7 @@ use apdu::{Application, Header};
 fn is_get_response(header: Header) -> bool
     ensures { result ≡ is_get_response header }
 {
-    matches!(
-        header,
-        Header {
-            ins: 0xc0,
-            p1: 0,
-            p2: 0,
-            ..
-        }
-    )
+    header.ins == 0xc0 && header.p1 == 0 && header.p2 == 0
 }
 
 impl<A: Application> Card<A> {

@@ -36,7 +36,7 @@ impl Giving {
 }
 
 impl Out {
-    // This and no bytes 60 before it.
+    // This, with no bytes 60 before it.
     fn at_once(then: Then) -> Out
         ensures { result ≡ record { waits = 0; then = then } }
     {

@@ -1,5 +1,4 @@
-use Rattle.std.proofs.Common.{◌≡◌, ℕ, List, take, ap, sym, ◌∙◌, subst}
-use Rattle.apdu.specs.Applications.{Outcome}
+use Rattle.std.proofs.Common.{ℕ, List, take, sym, ◌∙◌, subst}
 use Rattle.t0.specs.CardValues.{meant}
 use Rattle.t0.proofs.CardRunning.{Ran, inward_so}
 use Rattle.t0.proofs.card.Card.run_inward.Goals as goal
