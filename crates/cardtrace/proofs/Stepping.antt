@@ -35,15 +35,16 @@ module _ (p : Playing) where
       (λ _. cond_both (eqb (length r.part) 0) _ _ Tells (λ _. refl)
       (λ _. tells_judged r (placed r.stage (lines.line_of r.part))))
 
-  pub joins : (s : Stepped) (R : Reading) (st : Result (Option code.Line) Refusal) → R ≡ s.after → st ≡ shown s.out → Tells s → step_played p st R.command ≡ played p s.out
-  joins s R st e f t =
-      ap (λ (r : Reading). step_played p st r.command) e ∙ ap (λ (x : Result (Option code.Line) Refusal). step_played p x s.after.command) f ∙ t
-
-  pub closes : (s : Stepped) (R : Reading) (st : Result (Option code.Line) Refusal) → R ≡ s.after → st ≡ shown s.out → Tells s
-      → ◌≡◌ {A = Tracing} (record { reading = R; playing = (step_played p st R.command).after }) (by_step p s).after
-  closes s R st e f t =
-      ap (λ (q : Printed). record { reading = R; playing = q.after }) (joins s R st e f t)
-      ∙ ap (λ (r : Reading). record { reading = r; playing = (played p s.out).after }) e
+  -- What is played of a step is played of what the reader told.
+  pub plays : (s : Stepped) (R : Reading) (st : Result (Option code.Line) Refusal) (after : Tracing) (text : List ℕ)
+      → after ≡ record { reading = R; playing = (step_played p st R.command).after } → text ≡ (step_played p st R.command).text
+      → R ≡ s.after → st ≡ shown s.out → Tells s → (after ≡ (by_step p s).after) × (text ≡ (by_step p s).text)
+  plays s R st after text a b e f t =
+      let same : step_played p st R.command ≡ played p s.out =
+      ap (λ (r : Reading). step_played p st r.command) e ∙ ap (λ (x : Result (Option code.Line) Refusal). step_played p x s.after.command) f ∙ t in (
+        a ∙ ap (λ (q : Printed). record { reading = R; playing = q.after }) same ∙ ap (λ (r : Reading). record { reading = r; playing = (played p s.out).after }) e,
+        b ∙ ap (λ (q : Printed). q.text) same,
+      )
 
 -- What a step brings, put before what follows, is printed before it.
 printed_noted : (p : Playing) (o : Out) (os : List Out) → (played p o).text ++ printed (played p o).after os ≡ printed p (noted o os)
