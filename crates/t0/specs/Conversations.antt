@@ -1,4 +1,4 @@
-use Rattle.std.specs.Prelude.{ℕ, zero, suc, true, false, cond, List, [], ◌∷◌, ◌++◌, ◌==◌, slice_index, slice_set}
+use Rattle.std.specs.Prelude.{ℕ, zero, suc, cond, List, [], ◌∷◌, ◌++◌, ◌==◌, slice_index, slice_set}
 use Rattle.apdu.specs.Applications.{App}
 use Rattle.apdu.specs.Statuses as statuses
 use Rattle.apdu.specs.declared.status.Status.{Status}
