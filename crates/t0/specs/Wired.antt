@@ -23,6 +23,6 @@ wired_of app damage w = record { settings = w.card.settings; card = meant app w.
 abbrev pub joined : {S : Type 0} → Waiting → Wired S → List ℕ → Joined S
 joined terminal w staged = record { terminal = terminal; card = w.card; staged = staged; coming = w.coming }
 
--- A conversation that has just ended with an answer held, nothing of what crossed told.
-abbrev pub holds_still : {S : Type 0} → Token → Wired S → List ℕ → Talked S
-holds_still token w staged = record { end = held token; card = w.card; staged = staged; coming = w.coming; characters = [] }
+-- A conversation that left an answer held, as it stands before more crosses.
+abbrev pub left_held : {S : Type 0} → Token → Wired S → List ℕ → Talked S
+left_held token w staged = record { end = held token; card = w.card; staged = staged; coming = w.coming; characters = [] }

@@ -1,4 +1,4 @@
-ghost use Rattle.std.specs.Prelude.{◌≡◌, [], slice_index};
+ghost use Rattle.std.specs.Prelude.{◌≡◌, ℕ, List, []};
 ghost use Rattle.t0.specs.Conversations.{speaks, terminal_speaks, card_speaks, talk, most};
 ghost use Rattle.t0.specs.Talks.{Speaks, Talks, spoke_of, kept_in};
 ghost use Rattle.t0.specs.Terminals.{hears};
@@ -35,11 +35,10 @@ impl<A: Application, L: Line> WiredCard<A, L> {
     fn terminal_speaks(
         &mut self,
         waiting: Waiting,
-        staged: &[u8; 256],
         byte: u8,
         trace: &mut Record<'_, Traced>,
     ) -> Result<Spoke, Failure>
-        ensures { let old = wired_of A.Application.means L.Line.damage self.old in Speaks (terminal_speaks A.Application.means old.settings [] (joined waiting old staged.now) byte) result old (wired_of A.Application.means L.Line.damage self.new) staged.now trace.old trace.new }
+        ensures { let old = wired_of A.Application.means L.Line.damage self.old in (staged : List ℕ) → Speaks (terminal_speaks A.Application.means old.settings [] (joined waiting old staged) byte) result old (wired_of A.Application.means L.Line.damage self.new) staged trace.old trace.new }
     {
         let arrived = carry(&mut self.line, Sender::Terminal, byte, trace).ok_or(Failure::Lost)?;
         self.card.receive(arrived);
@@ -76,7 +75,7 @@ impl<A: Application, L: Line> WiredCard<A, L> {
             Want::SendData(place) => body.get(place).copied().unwrap_or(0),
             Want::Receive => return self.card_speaks(waiting, staged, trace),
         };
-        self.terminal_speaks(waiting, staged, byte, trace)
+        self.terminal_speaks(waiting, byte, trace)
     }
 
     // A conversation between terminal and card over the line, from a command's header to its end.

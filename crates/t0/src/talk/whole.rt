@@ -3,7 +3,7 @@ ghost use Rattle.apdu.specs.Judging.{parts};
 ghost use Rattle.t0.specs.Conversations.{held, converse, then_fetch, most};
 ghost use Rattle.t0.specs.Talks.{Converses, settled, end_of};
 ghost use Rattle.t0.specs.Terminals.{sends};
-ghost use Rattle.t0.specs.Wired.{wired_of, joined, holds_still};
+ghost use Rattle.t0.specs.Wired.{wired_of, joined, left_held};
 
 use crate::talk::{Ended, Failure, WiredCard};
 use crate::terminal::{Holding, Ready, Token};
@@ -33,7 +33,7 @@ impl<A: Application, L: Line> WiredCard<A, L> {
         staged: &mut [u8; 256],
         trace: &mut Record<'_, Traced>,
     ) -> Result<(usize, Status), Failure>
-        ensures { let old = wired_of A.Application.means L.Line.damage self.old in Converses (then_fetch A.Application.means old.settings body.now most (holds_still token old staged.old) (held token)) result old (wired_of A.Application.means L.Line.damage self.new) staged.new trace.old trace.new }
+        ensures { let old = wired_of A.Application.means L.Line.damage self.old in Converses (then_fetch A.Application.means old.settings body.now most (left_held token old staged.old) (held token)) result old (wired_of A.Application.means L.Line.damage self.new) staged.new trace.old trace.new }
     {
         let (holding, token) = match token.discard(holding) {
             Ok((_, status)) => return Ok((0, status)),

@@ -12,7 +12,7 @@ use apdu::{Command, Header, Refusal, Status, judge};
 fn as_p3(n: usize) -> u8
     ensures { result ≡ as_p3 n }
 {
-    if n < 256 { n as u8 } else { 0 }
+    u8::try_from(n).unwrap_or(0)
 }
 
 impl Waiting {
@@ -54,7 +54,6 @@ impl Ready {
     pub(crate) fn begin(self, command: Command<'_>) -> Waiting
         ensures { result ≡ sends (parts command.entry) }
     {
-        let Ready {} = self;
         let header = command.header;
         let (kind, total) = if header.is_inward() {
             (Kind::Inward, command.body.len())
@@ -74,7 +73,6 @@ impl Token {
             return Err((holding, self));
         }
         let Token { cla, ne, held } = self;
-        let Holding {} = holding;
         let total = held.min(ne);
         let header = Header {
             cla,
@@ -94,7 +92,6 @@ impl Token {
             return Err((holding, self));
         }
         self.forfeit();
-        let Holding {} = holding;
         Ok((Ready {}, Status::done()))
     }
 

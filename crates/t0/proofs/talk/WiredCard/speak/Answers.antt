@@ -11,7 +11,7 @@ returns g c =
     let j = joined c.args.waiting (at c.args.self.now) c.args.staged.now in
     elim c.match-want.branch [
       | in-Send w ↦ byte_sent g.A.Application.means c.args.self.now.card.settings c.args.body.now j _ c.match-want.byte c.terminal_speaks.result (at c.args.self.now) (at c.terminal_speaks.new.self) c.args.staged.now c.args.trace.now c.terminal_speaks.new.trace
-          c.terminal_speaks.ensures (ap Send w.byte-is ∙ w.in-Send.ensures)
+          (c.terminal_speaks.ensures c.args.staged.now) (ap Send w.byte-is ∙ w.in-Send.ensures)
       | in-SendData w ↦ data_sent g.A.Application.means c.args.self.now.card.settings c.args.body.now j _ c.match-want.byte c.terminal_speaks.result (at c.args.self.now) (at c.terminal_speaks.new.self) c.args.staged.now c.args.trace.now c.terminal_speaks.new.trace
-          c.terminal_speaks.ensures w.in-SendData.place w.in-SendData.ensures (let e : w.unwrap_or-byte.result ≡ get_or c.args.body.now w.in-SendData.place 0 = search rules in w.byte-is ∙ e)
+          (c.terminal_speaks.ensures c.args.staged.now) w.in-SendData.place w.in-SendData.ensures (let e : w.unwrap_or-byte.result ≡ get_or c.args.body.now w.in-SendData.place 0 = search rules in w.byte-is ∙ e)
     ]
