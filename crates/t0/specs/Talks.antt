@@ -30,7 +30,7 @@ end_of (Ok (Held _ token)) = held token
 end_of (Err Broken) = broken
 end_of (Err Lost) = lost
 
--- What a step of the terminal comes to: the conversation goes on or ends, and a byte of the answer goes to its place.
+-- What a step of the terminal comes to: the conversation goes on, ends or fails.
 abbrev pub spoke_of : Step → Result (ControlFlow Ended Waiting) Failure
 spoke_of (Next w) = Ok (Continue w)
 spoke_of (Keep w i) = Ok (Continue w)
@@ -38,6 +38,7 @@ spoke_of (step.Done _ count status) = Ok (Break (Done count status))
 spoke_of (step.Held holding token) = Ok (Break (Held holding token))
 spoke_of step.Broken = Err Broken
 
+-- The answer bytes after a step: a byte of the answer goes to its place.
 abbrev pub kept_in : Step → ℕ → List ℕ → List ℕ
 kept_in (Next w) b staged = staged
 kept_in (Keep w i) b staged = slice_set staged i b

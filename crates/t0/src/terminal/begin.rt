@@ -95,7 +95,7 @@ impl Token {
         Ok((Ready {}, Status::done()))
     }
 
-    // Spends the token of a terminal that the card's fault has ended.
+    // Spends the token, where nothing of the answer is fetched.
     pub(crate) fn forfeit(self)
         ensures { Unit {0} }
     {

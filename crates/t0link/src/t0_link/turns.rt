@@ -4,7 +4,7 @@ ghost use Rattle.t0link.specs.Links.{linked_by, link_of};
 use crate::t0_link::T0Link;
 use apdu::{Application, Refusal, Status, judge};
 use link::Link;
-use t0::{Settings, WiredCard};
+use t0::{Card, Settings, WiredCard};
 use wire::{Line, Record, Traced};
 
 impl<A: Application, L: Line> T0Link<A, L> {
@@ -13,7 +13,7 @@ impl<A: Application, L: Line> T0Link<A, L> {
         ensures { link_of A.Application.means L.Line.damage result ≡ linked_by settings (L.Line.damage line) (A.Application.means.state app) false }
     {
         T0Link {
-            wired: WiredCard::new(app, settings, line),
+            wired: WiredCard::new(Card::new(app, settings), line),
             lost: false,
         }
     }
