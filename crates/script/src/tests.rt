@@ -1,6 +1,7 @@
 use crate::line::{Line, print_line, read_line};
 use crate::reader::{Reader, Refusal};
-use crate::trace::{Outcome, bad_line, character_line, turn_line};
+use crate::trace::{Outcome, TurnLabel, bad_line, character_line, result_line, turn_line};
+use apdu::{Refusal, Status};
 use wire::{Sender, Traced};
 
 // How many lines are read, and the number of the bad line, 0 for none.
@@ -139,7 +140,7 @@ fn prints_lines(rt: HostRuntime) {
 }
 
 fn is_turn(turn: u64, program: u8, outcome: Outcome, data: &[u8], line: &str) -> bool {
-    match turn_line(turn, program, outcome, data) {
+    match turn_line(TurnLabel { turn, program }, outcome, data) {
         Some(text) => text.as_str() == line,
         None => false,
     }
@@ -183,6 +184,25 @@ fn writes_traces(rt: HostRuntime) {
             "j,10,255,6C1F,01AB\n"
         )
     );
-    assert_eq!(rt; turn_line(4, 1, Outcome::Reset, &[0; 257]), None);
+    let fourth = TurnLabel {
+        turn: 4,
+        program: 1,
+    };
+    assert_eq!(rt; turn_line(fourth, Outcome::Reset, &[0; 257]), None);
+    let mut answer = [0; 256];
+    answer[0] = 0xab;
+    let done = Ok(Some((1, Status::done())));
+    assert_eq!(rt;
+        result_line(fourth, done, &answer).as_str(),
+        "j,4,1,9000,AB\n"
+    );
+    assert_eq!(rt;
+        result_line(fourth, Ok(None), &answer).as_str(),
+        "j,4,1,reset,\n"
+    );
+    assert_eq!(rt;
+        result_line(fourth, Err(Refusal::Lost), &answer).as_str(),
+        "j,4,1,!5,\n"
+    );
     assert_eq!(rt; bad_line(3).as_str(), "x,3\n");
 }
