@@ -12,7 +12,7 @@ use Rattle.script.specs.declared.line.Line as script_line
 use Rattle.script.specs.declared.line.Line.TheVariants.{Link, Damage, Send, Reset}
 use Rattle.script.specs.declared.reader.Refusal.TheVariants.{BadLine}
 use Rattle.script.specs.declared.reader.Refusal.{Refusal}
-use Rattle.t0link.specs.Links.{linked_by}
+use Rattle.t0link.specs.Links.{link_of}
 use Rattle.t0link.specs.declared.t0_link.T0Link.{T0Link}
 use Rattle.wire.specs.MarkedLines.{at_marks, marks_of}
 use Rattle.wire.specs.declared.marked.MarkedLine.{MarkedLine}
@@ -32,7 +32,7 @@ begins = record { reading = fresh; playing = start }
 
 -- The link that the code's T=0 link means.
 abbrev pub t0_link_of : T0Link Files MarkedLine → Linked Shelf
-t0_link_of l = linked_by l.card.settings (at_marks (marks_of l.line) l.line.at) (files_app.state l.card.app) l.lost
+t0_link_of = link_of files_app (λ line. at_marks (marks_of line) line.at)
 
 -- Where a value of the code stands.
 abbrev pub stand_of : code.Stand → Stand
