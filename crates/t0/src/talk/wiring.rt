@@ -1,7 +1,6 @@
 ghost use Rattle.std.specs.Prelude.{◌≡◌};
-ghost use Rattle.t0.specs.Cards.{card_reset};
 ghost use Rattle.t0.specs.CardValues.{meant};
-ghost use Rattle.t0.specs.Wired.{wired_of};
+ghost use Rattle.t0.specs.Wired.{wired_of, after_reset};
 
 use crate::card::Card;
 use crate::talk::WiredCard;
@@ -25,7 +24,7 @@ impl<A: Application, L: Line> WiredCard<A, L> {
 
     // A warm reset of the card; nothing crosses the line.
     pub fn reset(&mut self)
-        ensures { let old = wired_of A.Application.means L.Line.damage self.old in wired_of A.Application.means L.Line.damage self.new ≡ record { settings = old.settings; card = card_reset A.Application.means old.card; coming = old.coming } }
+        ensures { wired_of A.Application.means L.Line.damage self.new ≡ after_reset A.Application.means (wired_of A.Application.means L.Line.damage self.old) }
     {
         self.card.reset();
     }
