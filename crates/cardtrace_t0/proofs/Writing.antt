@@ -1,5 +1,5 @@
-use Rattle.std.proofs.Common.{◌≡◌, ℕ, ◌+◌, ◌<◌, ◌≤◌, List, [], ◌∷◌, ◌++◌, length, get_or, take, Some, None, Ok, Err, Option, Result, sym, refl, ap, ◌∙◌, append_assoc, append-nil}
-use Rattle.std.proofs.lemmas.List.{take_all, take_more}
+use Rattle.std.proofs.Common.{◌≡◌, ℕ, ◌+◌, ◌<◌, List, [], ◌∷◌, ◌++◌, length, get_or, take, Some, None, Ok, Err, Option, Result, sym, refl, ap, ◌∙◌, append_assoc, append-nil}
+use Rattle.std.proofs.lemmas.List.{take_more}
 use Rattle.apdu.specs.declared.refusal.Refusal.{Refusal}
 use Rattle.apdu.specs.declared.status.Status.{Status}
 use Rattle.link.specs.Results.{turn_gave}
@@ -22,10 +22,6 @@ lines_more turn cs i d items old before line h e el f =
     e ∙ ap (λ (t : List ℕ). t ++ line) f ∙ append_assoc old (character_lines turn (take i cs)) line
     ∙ ap (λ (t : List ℕ). old ++ (character_lines turn (take i cs) ++ t)) (el ∙ sym (append-nil _))
     ∙ ap (λ (t : List ℕ). old ++ t) (sym (ap (character_lines turn) (take_more cs i d h) ∙ lines_append turn (take i cs) (get_or cs i d ∷ [])))
-
-pub lines_all : (turn : ℕ) (cs : List Traced) (i : ℕ) (items old : List ℕ) → length cs ≤ i
-    → items ≡ old ++ character_lines turn (take i cs) → items ≡ old ++ character_lines turn cs
-lines_all turn cs i items old h e = e ∙ ap (λ (t : List Traced). old ++ character_lines turn t) (take_all i cs h)
 
 -- The line of a turn's result is that of what the turn gave.
 pub result_entry : (turn program : ℕ) (r : Result (Option (ℕ × Status)) Refusal) (answer : List ℕ)

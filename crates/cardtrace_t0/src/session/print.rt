@@ -1,12 +1,9 @@
 ghost use Rattle.std.specs.Prelude.{◌≡◌, ◌++◌, OnOk};
 ghost use Rattle.link.specs.Meaning.{linked};
 ghost use Rattle.link.specs.Meant.{meant_order};
-ghost use Rattle.link.specs.Results.{Takes};
-ghost use Rattle.wire.specs.Records.{noted};
 ghost use Rattle.cardtrace_t0.specs.Traces.{free, character_lines, turn_lines};
 
 use crate::session::Trouble;
-use apdu::{Refusal, Status};
 use link::{Link, Order, take};
 use script::trace::{TurnLabel, character_line, result_line};
 use std::alloc::AllocError;
@@ -32,22 +29,6 @@ fn write_characters(turn: u64, characters: &[Traced], out: &mut Vec<u8>) -> Resu
     Ok(())
 }
 
-// Takes a turn over a link with the trace in these places, and counts its characters.
-fn take_traced<L: Link>(
-    link: &mut L,
-    order: Order<'_>,
-    answer: &mut [u8; 256],
-    places: &mut [Traced],
-) -> (Result<Option<(usize, Status)>, Refusal>, u32)
-    ensures turn { Takes (linked L.App.Application.means (L.meaning L.App.Application.means link.old) (meant_order order.entry) answer.old) (L.meaning L.App.Application.means link.new) answer.new result.0 }
-    ensures trace { places.exit.now ≡ (noted (record { places = places.entry.now; count = 0 }) (linked L.App.Application.means (L.meaning L.App.Application.means link.old) (meant_order order.entry) answer.old).characters).places }
-    ensures count { result.1 ≡ (noted (record { places = places.entry.now; count = 0 }) (linked L.App.Application.means (L.meaning L.App.Application.means link.old) (meant_order order.entry) answer.old).characters).count }
-{
-    let mut trace = Record::new(places);
-    let result = take(link, order, answer, &mut trace);
-    (result, trace.count())
-}
-
 // Plays a turn over a link, and adds what it prints to the text.
 pub(crate) fn play_turn<L: Link>(
     link: &mut L,
@@ -60,8 +41,10 @@ pub(crate) fn play_turn<L: Link>(
 {
     let mut answer = [0u8; 256];
     let mut places = [BLANK; TRACE_ROOM];
-    let (result, count) = take_traced(link, order, &mut answer, &mut places);
-    let characters = places.get(..count as usize).ok_or(Trouble::LongTrace)?;
+    let mut trace = Record::new(&mut places);
+    let result = take(link, order, &mut answer, &mut trace);
+    let count = trace.count() as usize;
+    let characters = places.get(..count).ok_or(Trouble::LongTrace)?;
     write_characters(label.turn, characters, out)?;
     out.extend_from_slice(result_line(label, result, &answer).as_bytes())?;
     Ok(())
