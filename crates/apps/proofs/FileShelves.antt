@@ -1,105 +1,92 @@
-use Rattle.std.proofs.Common.{◌≡◌, ℕ, ◌+◌, ◌*◌, ◌<◌, ◌&&◌, eqb, ltb, leb, List, map, length, get_or, take, set, Some, None, Option, sym, refl, ap, ◌∙◌, arith, length-take, get_or-take}
-use lib.Seq.{take-set-lt}
-use Rattle.std.proofs.lemmas.List.{get_or-map, map-set, length-map}
-use Rattle.std.proofs.lemmas.Bool.{lt-ltb, eq-eqb, and_from, cond-true, cond_both}
+use Rattle.std.proofs.Common.{◌≡◌, ℕ, ◌+◌, ◌*◌, ◌&&◌, cond, eqb, ltb, leb, List, [], length, get_or, set, Some, None, Option, Ok, Err, Result, sym, refl, ap, ◌∙◌, nat_lt}
+use Rattle.std.specs.List.{refill}
+use Rattle.std.specs.Option.{ok_or}
+use Rattle.std.proofs.lemmas.List.{take_at, length-set}
+use Rattle.std.proofs.lemmas.Bool.{eq-eqb, and_from, cond-true, cond-false, cond_both}
 use Rattle.apdu.specs.Applications.{Outcome}
-use Rattle.apdu.specs.Statuses.{done, no_current_file, file_not_found}
-use Rattle.apps.specs.Files.{File, Shelf, find, named, replaced, refused, number_in, description, selected, select_file, read_file, read_from, read_binary, update_file, update_in, update_binary, put_back}
-use Rattle.apps.specs.FilePlaces.{place, place_named}
-use Rattle.apps.specs.FileSlots.{file_of}
-use Rattle.apps.specs.FileValues.{shelf}
-use Rattle.apps.specs.declared.files.Files.{Files}
-use Rattle.apps.specs.declared.files.slot.Slot.{Slot}
-use Rattle.apps.proofs.FilePlaces.{found, missing}
-
--- A place that was found is the place of a slot in use.
-pub place_below : (f : Files) (id i : ℕ) → Some i ≡ place id (shelf f).files → i < f.count
-place_below f id i h =
-    let r = found (shelf f).files id i h in
-    let n : length (shelf f).files ≡ length (take f.count f.slots) = length-map (take f.count f.slots) file_of in
-    let m = length-take f.count f.slots in
-    omega (arith, r.inside)
-
--- The file that was found is the one in that slot.
-slot_file : (f : Files) (i : ℕ) (d : Slot) → i < length (take f.count f.slots) → i < f.count
-    → get_or (shelf f).files i (file_of d) ≡ file_of (get_or f.slots i d)
-slot_file f i d h b = get_or-map file_of (take f.count f.slots) i d (file_of d) h ∙ ap file_of (get_or-take f.count f.slots i d b)
-
-pub slot_found : (f : Files) (id i : ℕ) (d : Slot) → Some i ≡ place id (shelf f).files
-    → (find id (shelf f).files ≡ Some (file_of (get_or f.slots i d))) × ((get_or f.slots i d).id ≡ id)
-slot_found f id i d h =
-    let r = found (shelf f).files id i h in
-    let n : length (shelf f).files ≡ length (take f.count f.slots) = length-map (take f.count f.slots) file_of in
-    let same = slot_file f i d (omega (arith, r.inside)) (place_below f id i h) in
-    (r.finds (file_of d) ∙ ap Some same, ap (λ (g : File). g.id) (sym same) ∙ r.named (file_of d))
-
--- The files after a slot in use has another content.
-pub slot_set : (f : Files) (i : ℕ) (s : Slot) → i < f.count → map file_of (take f.count (set f.slots i s)) ≡ set (shelf f).files i (file_of s)
-slot_set f i s h = ap (map file_of) (take-set-lt f.count f.slots i s h) ∙ map-set file_of (take f.count f.slots) i s
+use Rattle.apdu.specs.Statuses.{done, no_current_file, file_not_found, wrong_parameters}
+use Rattle.apdu.specs.declared.status.Status.{Status}
+use Rattle.apps.specs.Files.{File, Shelf, find, named, refused, number_in, description, selected, select_file, read_file, read_from, read_binary, update_file, update_in, update_binary, put_back}
+use Rattle.apps.specs.Replies.{gives}
+use Rattle.apps.specs.FilePlaces.{place, place_named, at_offset, current_at}
+use Rattle.apps.proofs.FilePlaces.{found, found_id, missing, named_found, named_replaced, named_missing}
 
 -- What SELECT comes to.
-module _ (f : Files) (p1 p2 : ℕ) (body : List ℕ) (a : p1 ≡ 0) (b : p2 ≡ 0) (l : length body ≡ 2) where
-  select_named : select_file (shelf f) p1 p2 body ≡ selected (shelf f) (find (number_in body) (shelf f).files)
+module _ (s : Shelf) (p1 p2 : ℕ) (body : List ℕ) (a : p1 ≡ 0) (b : p2 ≡ 0) (l : length body ≡ 2) (id : ℕ) (e : id ≡ number_in body) where
+  select_named : select_file s p1 p2 body ≡ selected s (find id s.files)
   select_named =
-      cond-true (eqb p1 0 && eqb p2 0) _ _ (and_from _ _ (eq-eqb p1 0 a) (eq-eqb p2 0 b)) ∙ cond-true (eqb (length body) 2) _ _ (eq-eqb (length body) 2 l)
+      cond-true (eqb p1 0 && eqb p2 0) _ _ (and_from _ _ (eq-eqb p1 0 a) (eq-eqb p2 0 b))
+      ∙ cond-true (eqb (length body) 2) _ _ (eq-eqb (length body) 2 l)
+      ∙ ap (λ (n : ℕ). selected s (find n s.files)) (sym e)
 
-  pub select_missing : (id : ℕ) → id ≡ number_in body → None ≡ place id (shelf f).files → select_file (shelf f) p1 p2 body ≡ refused (shelf f) file_not_found
-  select_missing id e h =
-      select_named ∙ (ap (λ (n : ℕ). selected (shelf f) (find n (shelf f).files)) (sym e) ∙ ap (selected (shelf f)) (missing (shelf f).files id h))
+  pub select_none : (o : Option ℕ) (why : Status) → o ≡ place id s.files → Err why ≡ ok_or o file_not_found → refused s why ≡ select_file s p1 p2 body
+  select_none None why h r = let w : why ≡ file_not_found = cc in ap (refused s) w ∙ ap (selected s) (sym (missing s.files id h)) ∙ sym select_named
+  select_none (Some i) why h r = absurd (cc)
 
-  pub select_found : (id i : ℕ) (d : Slot) → id ≡ number_in body → Some i ≡ place id (shelf f).files
-      → select_file (shelf f) p1 p2 body
-      ≡ record { state = record { files = (shelf f).files; current = Some id }; reply = record { answer = description (file_of (get_or f.slots i d)); status = done } }
-  select_found id i d e h =
-      let r = slot_found f id i d h in
-      select_named
-      ∙ (ap (λ (n : ℕ). selected (shelf f) (find n (shelf f).files)) (sym e)
-      ∙ (ap (selected (shelf f)) r.0
-      ∙ ap (λ (n : ℕ). record { state = record { files = (shelf f).files; current = Some n }; reply = record { answer = description (file_of (get_or f.slots i d)); status = done } }) r.1))
+  pub select_some : (o : Option ℕ) (i : ℕ) (d : File) → o ≡ place id s.files → Ok i ≡ ok_or o file_not_found
+      → ◌≡◌ {A = Outcome Shelf}
+      (record { state = record { files = s.files; current = Some id }; reply = record { answer = description (get_or s.files i d); status = done } })
+      (select_file s p1 p2 body)
+  select_some None i d h r = absurd (cc)
+  select_some (Some j) i d h r =
+      let q : i ≡ j = cc in
+      let p : Some i ≡ place id s.files = ap Some q ∙ h in
+      ap (λ (n : ℕ). record { state = record { files = s.files; current = Some n }; reply = record { answer = description (get_or s.files i d); status = done } }) (sym (found_id s.files id i d p))
+      ∙ ap (selected s) (sym (found s.files id i d p))
+      ∙ sym select_named
 
--- The same of the current file, by its name.
-module _ (f : Files) where
-  named_below : (name : Option ℕ) (i : ℕ) → Some i ≡ place_named name (shelf f).files → i < f.count
-  named_below None i h = let z : ◌≡◌ {A = ℕ} 0 1 = cc in absurd (omega arith)
-  named_below (Some id) i h = place_below f id i h
+-- What a place and an offset tell.
+at_ok : (n : ℕ) (o : Option ℕ) (i offset : ℕ) → Ok (i, offset) ≡ at_offset n o → (Some i ≡ o) × (offset ≡ n)
+at_ok n None i offset h = absurd (cc)
+at_ok n (Some j) i offset h =
+    let q : ◌≡◌ {A = ℕ × ℕ} (i, offset) (j, n) = cc in
+    (ap (λ (p : ℕ × ℕ). Some p.0) q, ap (λ (p : ℕ × ℕ). p.1) q)
 
-  named_found : (name : Option ℕ) (i : ℕ) (d : Slot) → Some i ≡ place_named name (shelf f).files
-      → named name (shelf f).files ≡ Some (file_of (get_or f.slots i d))
-  named_found None i d h = let z : ◌≡◌ {A = ℕ} 0 1 = cc in absurd (omega arith)
-  named_found (Some id) i d h = (slot_found f id i d h).0
+at_err : (n : ℕ) (o : Option ℕ) (why : Status) → Err why ≡ at_offset n o → (None ≡ o) × (why ≡ no_current_file)
+at_err n None why h = (refl, cc)
+at_err n (Some j) why h = absurd (cc)
 
-  named_replaced : (name : Option ℕ) (i : ℕ) (d : Slot) (g : File) → Some i ≡ place_named name (shelf f).files
-      → g.id ≡ (get_or f.slots i d).id → replaced g (shelf f).files ≡ set (shelf f).files i g
-  named_replaced None i d g h q = let z : ◌≡◌ {A = ℕ} 0 1 = cc in absurd (omega arith)
-  named_replaced (Some id) i d g h q = (found (shelf f).files id i h).replaces g (q ∙ (slot_found f id i d h).1)
+-- What READ BINARY and UPDATE BINARY come to, where `then` is what is done with the current file.
+module _ (s : Shelf) (p1 p2 : ℕ) (then : ℕ → Option File → Outcome Shelf) where
+  abbrev begun : Outcome Shelf
+  begun = cond (nat_lt p1 0x80) (then (p1 * 256 + p2) (named s.current s.files)) (refused s wrong_parameters)
 
-  named_missing : (name : Option ℕ) → None ≡ place_named name (shelf f).files → named name (shelf f).files ≡ None
-  named_missing None h = refl
-  named_missing (Some id) h = missing (shelf f).files id h
+  begun_err : (why : Status) → ((n : ℕ) → then n None ≡ refused s no_current_file) → Err why ≡ current_at s p1 p2 → refused s why ≡ begun
+  begun_err why missed =
+      cond_both (nat_lt p1 0x80) (at_offset (p1 * 256 + p2) (place_named s.current s.files)) (Err wrong_parameters)
+      (λ (r : Result (ℕ × ℕ) Status). Err why ≡ r → refused s why ≡ begun)
+      (λ t h.
+      let q = at_err (p1 * 256 + p2) _ why h in
+      ap (refused s) q.1
+      ∙ sym (missed (p1 * 256 + p2))
+      ∙ ap (then (p1 * 256 + p2)) (sym (named_missing s.files s.current q.0))
+      ∙ sym (cond-true (nat_lt p1 0x80) _ _ t))
+      (λ f h. let q : why ≡ wrong_parameters = cc in ap (refused s) q ∙ sym (cond-false (nat_lt p1 0x80) _ _ f))
 
-pub current_below : (f : Files) (i : ℕ) → Some i ≡ place_named f.current (shelf f).files → i < f.count
-current_below f i h = named_below f f.current i h
+  begun_ok : (i offset : ℕ) (d : File) → Ok (i, offset) ≡ current_at s p1 p2
+      → (then offset (Some (get_or s.files i d)) ≡ begun) × (Some i ≡ place_named s.current s.files)
+  begun_ok i offset d =
+      cond_both (nat_lt p1 0x80) (at_offset (p1 * 256 + p2) (place_named s.current s.files)) (Err wrong_parameters)
+      (λ (r : Result (ℕ × ℕ) Status). Ok (i, offset) ≡ r → (then offset (Some (get_or s.files i d)) ≡ begun) × (Some i ≡ place_named s.current s.files))
+      (λ t h.
+      let q = at_ok (p1 * 256 + p2) _ i offset h in (
+        ap (then offset) (sym (named_found s.files s.current i d q.0))
+            ∙ ap (λ (n : ℕ). then n (named s.current s.files)) q.1
+            ∙ sym (cond-true (nat_lt p1 0x80) _ _ t),
+        q.0,
+      ))
+      (λ f h. absurd (cc))
 
--- What READ BINARY and UPDATE BINARY come to.
-pub read_missing : (f : Files) (p1 p2 : ℕ) (body : List ℕ) → p1 < 0x80 → None ≡ place_named f.current (shelf f).files
-    → read_binary (shelf f) p1 p2 body ≡ refused (shelf f) no_current_file
-read_missing f p1 p2 body h e =
-    cond-true (ltb p1 0x80) _ _ (lt-ltb p1 0x80 h) ∙ ap (read_from (shelf f) (p1 * 256 + p2) body) (named_missing f f.current e)
+module _ (s : Shelf) (p1 p2 : ℕ) (body : List ℕ) where
+  pub read_err : (why : Status) → Err why ≡ current_at s p1 p2 → refused s why ≡ read_binary s p1 p2 body
+  read_err why = begun_err s p1 p2 (λ offset. read_from s offset body) why (λ n. refl)
 
-pub read_found : (f : Files) (p1 p2 : ℕ) (body : List ℕ) (i : ℕ) (d : Slot) → p1 < 0x80 → Some i ≡ place_named f.current (shelf f).files
-    → read_binary (shelf f) p1 p2 body ≡ record { state = shelf f; reply = read_file (file_of (get_or f.slots i d)) (p1 * 256 + p2) body }
-read_found f p1 p2 body i d h e =
-    cond-true (ltb p1 0x80) _ _ (lt-ltb p1 0x80 h) ∙ ap (read_from (shelf f) (p1 * 256 + p2) body) (named_found f f.current i d e)
+  pub read_ok : (i offset : ℕ) (d : File) → Ok (i, offset) ≡ current_at s p1 p2
+      → ◌≡◌ {A = Outcome Shelf} (record { state = s; reply = read_file (get_or s.files i d) offset body }) (read_binary s p1 p2 body)
+  read_ok i offset d h = (begun_ok s p1 p2 (λ offset. read_from s offset body) i offset d h).0
 
-pub update_missing : (f : Files) (p1 p2 : ℕ) (body : List ℕ) → p1 < 0x80 → None ≡ place_named f.current (shelf f).files
-    → update_binary (shelf f) p1 p2 body ≡ refused (shelf f) no_current_file
-update_missing f p1 p2 body h e =
-    cond-true (ltb p1 0x80) _ _ (lt-ltb p1 0x80 h) ∙ ap (update_in (shelf f) (p1 * 256 + p2) body) (named_missing f f.current e)
-
-pub update_found : (f : Files) (p1 p2 : ℕ) (body : List ℕ) (i : ℕ) (d : Slot) → p1 < 0x80 → Some i ≡ place_named f.current (shelf f).files
-    → update_binary (shelf f) p1 p2 body ≡ put_back (shelf f) (update_file (file_of (get_or f.slots i d)) (p1 * 256 + p2) body)
-update_found f p1 p2 body i d h e =
-    cond-true (ltb p1 0x80) _ _ (lt-ltb p1 0x80 h) ∙ ap (update_in (shelf f) (p1 * 256 + p2) body) (named_found f f.current i d e)
+  pub update_err : (why : Status) → Err why ≡ current_at s p1 p2 → refused s why ≡ update_binary s p1 p2 body
+  update_err why = begun_err s p1 p2 (λ offset. update_in s offset body) why (λ n. refl)
 
 -- An update keeps the id.
 update_id : (f : File) (offset : ℕ) (body : List ℕ) → (update_file f offset body).state.id ≡ f.id
@@ -108,15 +95,18 @@ update_id f offset body =
     (λ _. cond_both (leb 1 (length body) && leb (offset + length body) (length f.bytes)) _ _ (λ (o : Outcome File). o.state.id ≡ f.id) (λ _. refl) (λ _. refl))
     (λ _. refl)
 
--- The shelf after the slot of the current file was updated.
-pub update_put : (f : Files) (offset : ℕ) (body : List ℕ) (i : ℕ) (d t : Slot) → Some i ≡ place_named f.current (shelf f).files
-    → file_of t ≡ (update_file (file_of (get_or f.slots i d)) offset body).state
-    → ◌≡◌ {A = Shelf} (record { files = map file_of (take f.count (set f.slots i t)); current = f.current })
-    (put_back (shelf f) (update_file (file_of (get_or f.slots i d)) offset body)).state
-update_put f offset body i d t e u =
-    let b = current_below f i e in
-    let q : t.id ≡ (get_or f.slots i d).id = ap (λ (x : File). x.id) u ∙ update_id (file_of (get_or f.slots i d)) offset body in
-    let r = named_replaced f f.current i d (file_of t) e q in
-    let w : map file_of (take f.count (set f.slots i t)) ≡ replaced (update_file (file_of (get_or f.slots i d)) offset body).state (shelf f).files =
-    slot_set f i t b ∙ (sym r ∙ ap (λ (x : File). replaced x (shelf f).files) u) in
-    ap (λ (x : List File). record { files = x; current = f.current }) w
+-- The shelf after the current file was updated in its place.
+pub update_ok : (s t : Shelf) (p1 p2 : ℕ) (body : List ℕ) (i offset : ℕ) (d x after : File) (result : Result (Unit {0}) Status) → s ≡ t
+    → Ok (i, offset) ≡ current_at t p1 p2 → d ≡ get_or s.files i x → gives after (λ _. []) result ≡ update_file d offset body
+    → gives (record { files = refill (length s.files) s.files (set s.files i after); current = s.current }) (λ _. []) result ≡ update_binary t p1 p2 body
+update_ok s t p1 p2 body i offset d x after result v h e u =
+    let b = begun_ok s p1 p2 (λ offset. update_in s offset body) i offset x (h ∙ ap (λ (t : Shelf). current_at t p1 p2) (sym v)) in
+    let w : gives after (λ _. []) result ≡ update_file (get_or s.files i x) offset body = u ∙ ap (λ (f : File). update_file f offset body) e in
+    let q : after.id ≡ (get_or s.files i x).id = ap (λ (o : Outcome File). o.state.id) w ∙ update_id (get_or s.files i x) offset body in
+    let r = named_replaced s.files s.current i x after b.1 q in
+    let l : refill (length s.files) s.files (set s.files i after) ≡ set s.files i after =
+    take_at (set s.files i after) _ (length s.files) (length-set s.files i after) in
+    ap (λ (fs : List File). gives (record { files = fs; current = s.current }) (λ _. []) result) (l ∙ sym r)
+    ∙ ap (put_back s) w
+    ∙ b.0
+    ∙ ap (λ (t : Shelf). update_binary t p1 p2 body) v

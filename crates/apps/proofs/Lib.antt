@@ -1,9 +1,7 @@
 pub mod PurseBalances
 pub mod PursePlaces
-pub mod PurseAmounts
 pub mod PurseLaws
-pub mod FileContents
-pub mod FileSame
 pub mod FilePlaces
 pub mod FileShelves
-pub mod FileTables
+pub mod FileContents
+pub mod PurseSums

@@ -1,8 +1,8 @@
-use Rattle.std.specs.Prelude.{◌≡◌, ℕ, zero, suc, ◌+◌, ◌<◌, ◌≤◌, T, List, [], ◌∷◌, ◌++◌, length, take, ℤ, pos, ◌+ℤ◌, FitsSigned, nat_le, slice_index_or, unsigned_abs, refl}
-use Rattle.std.proofs.Common.{sym, ap, subst, ◌∙◌, ⊎_elim, arith, Fits}
+use Rattle.std.specs.Prelude.{◌≡◌, zero, suc, ◌<◌, ◌≤◌, T, List, [], ◌∷◌, ◌++◌, length, take, ℤ, pos, ◌+ℤ◌, FitsSigned, nat_le, unsigned_abs, refl}
+use Rattle.std.proofs.Common.{sym, subst, ⊎_elim, arith, Fits}
 use Rattle.std.specs.Int.Signed.{non_neg}
 use Rattle.std.specs.Int.{w32}
-use Rattle.std.proofs.lemmas.List.{take-append-le, take_all, take_more, length-append}
+use Rattle.std.proofs.lemmas.List.{take-append-le, take_all, length-append}
 use Rattle.std.proofs.lemmas.Int.{ints}
 use Rattle.std.proofs.lemmas.Bool.{cases_lt, cond_both}
 use Rattle.apps.specs.Purse.{balance, within, joined, recorded, Sound}
@@ -15,19 +15,6 @@ pub balance_joined : (ms : List ℤ) → balance (joined ms) ≡ balance ms
 balance_joined [] = refl
 balance_joined (m ∷ []) = refl
 balance_joined (m ∷ (n ∷ ms)) = omega (arith, ints)
-
--- Movements of 0 have a balance of 0, and are sound; so are none.
-abbrev Zeros : List ℤ → Type 0
-Zeros [] = Unit {0}
-Zeros (m ∷ ms) = (m ≡ pos 0) × Zeros ms
-
-balance_zeros : (ms : List ℤ) (n : ℕ) → Zeros ms → balance (take n ms) ≡ pos 0
-balance_zeros ms zero h = refl
-balance_zeros [] (suc n) h = refl
-balance_zeros (m ∷ ms) (suc n) h = let e = balance_zeros ms n h.1 in omega (arith, ints, h.0)
-
-pub sound_zeros : (ms : List ℤ) → Zeros ms → Sound ms
-sound_zeros ms h n = subst (λ (b : ℤ). T (within b)) (sym (balance_zeros ms n h)) tt
 
 sound_joined : (ms : List ℤ) → Sound ms → Sound (joined ms)
 sound_joined [] h k = h k
@@ -66,15 +53,6 @@ cents_fit s b e h = grind (arith, ints)
 -- A balance in its limits fits 32 bits with a sign.
 pub fits_within : (b : ℤ) → T (within b) → FitsSigned w32 b
 fits_within b h = grind (arith, ints)
-
--- A sum that goes through the movements from the oldest on, and fits on its way.
-pub sum_more : (ms : List ℤ) (i : ℕ) (s : ℤ) → i < length ms → s ≡ balance (take i ms) → s +ℤ slice_index_or ms i (pos 0) ≡ balance (take (i + 1) ms)
-sum_more ms i s l e = ap (λ (b : ℤ). b +ℤ slice_index_or ms i (pos 0)) e ∙ sym (ap balance (take_more ms i (pos 0) l) ∙ balance_push (take i ms) (slice_index_or ms i (pos 0)))
-
-pub sum_more_fits : (ms held : List ℤ) (i : ℕ) (s : ℤ) → ms ≡ held → Sound held → i < length ms → s ≡ balance (take i ms) → FitsSigned w32 (s +ℤ slice_index_or ms i (pos 0))
-sum_more_fits ms held i s same sound l e =
-    let w : T (within (balance (take (i + 1) ms))) = subst (λ (xs : List ℤ). T (within (balance (take (i + 1) xs)))) (sym same) (sound (i + 1)) in
-    subst (λ (b : ℤ). FitsSigned w32 b) (sym (sum_more ms i s l e)) (fits_within (balance (take (i + 1) ms)) w)
 
 -- What is recorded leaves the movements sound.
 pub sound_recorded : (ms : List ℤ) (m : ℤ) → Sound ms → T (within (balance ms +ℤ m)) → Sound (recorded ms m)

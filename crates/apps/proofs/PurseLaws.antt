@@ -1,15 +1,11 @@
-use Rattle.std.specs.Prelude.{◌≡◌, ℕ, not, List, [], ◌∷◌, ◌++◌, length, ℤ, pos, ◌+ℤ◌, neg_ℤ, Ok, Err, ◌==◌, ◌≢◌, nat_le, refl}
+use Rattle.std.specs.Prelude.{◌≡◌, ℕ, not, List, [], ◌∷◌, ◌++◌, length, ℤ, pos, ◌+ℤ◌, neg_ℤ, Ok, Err, ◌==◌, ◌≢◌, nat_le}
 use Rattle.std.proofs.Common.{ap, ◌∙◌, arith}
 use Rattle.std.proofs.lemmas.Bool.{cond_both}
 use Rattle.apdu.specs.Applications.{Outcome}
 use Rattle.apdu.specs.Statuses.{done, wrong_length, conditions_not_met, wrong_data}
 use Rattle.apdu.specs.declared.status.Status.{Status}
-use Rattle.apps.specs.Purse.{balance, within, proper, joined, recorded, number_of, refuses, accepts, move_by, amount_of, move_amount, CreditAdds, DebitTakes, RefusalKeeps}
-use Rattle.apps.specs.PurseReplies.{of_run}
+use Rattle.apps.specs.Purse.{balance, within, proper, joined, recorded, number_of, refuses, accepts, move_by, amount_of, move_amount, CreditAdds, DebitTakes}
 use Rattle.apps.proofs.PurseBalances.{balance_push, balance_joined}
-
-pub refusal_keeps : RefusalKeeps
-refusal_keeps ms = of_run ms (λ o. (o.reply.status ≢ done) → o.state ≡ ms) (λ _ h. absurd (h refl)) (λ _ _. refl)
 
 pub balance_recorded : (ms : List ℤ) (m : ℤ) → balance (recorded ms m) ≡ balance ms +ℤ m
 balance_recorded ms m =

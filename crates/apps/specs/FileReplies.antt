@@ -1,9 +1,27 @@
-use Rattle.std.specs.Prelude.{◌≡◌, ℕ, ◌+◌, ◌*◌, ◌≤◌, ◌&&◌, List, [], length, drop, Some, None, Option, ◌==◌, nat_le, nat_lt, refl}
+use Rattle.std.specs.Prelude.{◌≡◌, ℕ, ◌+◌, ◌*◌, ◌≤◌, ◌&&◌, List, [], length, drop, Some, None, Option, Ok, Err, Result, ◌==◌, nat_le, nat_lt, refl}
 use Rattle.std.proofs.Common.{arith, length-take}
 use Rattle.std.proofs.lemmas.Bool.{cond_both}
-use Rattle.apdu.specs.Applications.{Reply, Outcome, CarriesData}
+use Rattle.apdu.specs.Applications.{Reply, Outcome, CarriesData, opened}
+use Rattle.apdu.specs.Statuses.{done}
 use Rattle.apdu.specs.declared.status.Status.{Status}
 use Rattle.apps.specs.Files.{File, Shelf, bare, find, named, number_in, selected, select_file, read_file, read_from, read_binary, update_file, update_in, update_binary, files_run}
+
+-- What a result counts: the answer bytes of a command; one that is refused has none.
+abbrev pub counted : Result ℕ Status → ℕ
+counted (Ok count) = count
+counted (Err why) = 0
+
+-- The status of a result: 9000, or the one that refuses the command.
+abbrev pub status_in : Result ℕ Status → Status
+status_in (Ok count) = done
+status_in (Err why) = why
+
+-- What a run left is its outcome: the state, the answer, which opens the buffer, its count, and the status.
+pub record Answered (o : Outcome Shelf) (after : Shelf) (result : Result ℕ Status) (old new : List ℕ) : Type 0 where
+  pub state : after ≡ o.state
+  pub answer : new ≡ opened o.reply.answer old
+  pub count : counted result ≡ length o.reply.answer
+  pub status : status_in result ≡ o.reply.status
 
 -- A lawful reply: at most 256 answer bytes, and status 9000 where there are some.
 abbrev pub Good : Reply → Type 0

@@ -1,4 +1,5 @@
-use Rattle.std.specs.Prelude.{ℕ, ◌+◌, Bool, true, false, cond, not, ◌&&◌, ◌||◌, List, [], ◌∷◌, map, length, take, drop, Some, None, Option, ◌==◌, nat_le}
+use Rattle.std.specs.Prelude.{ℕ, ◌+◌, Bool, true, cond, not, ◌&&◌, List, [], ◌∷◌, map, length, take, drop, Some, None, Option, ◌==◌, nat_le}
+use Rattle.std.specs.List.{list_any}
 use Rattle.apps.specs.Files.{File, Shelf}
 use Rattle.apps.specs.declared.files.entry.Entry.{Entry}
 
@@ -21,8 +22,7 @@ all_fit contents (e ∷ es) = fits contents e && all_fit contents es
 
 -- Some entry has this id.
 abbrev pub has_id : ℕ → List Entry → Bool
-has_id id [] = false
-has_id id (e ∷ es) = e.id == id || has_id id es
+has_id id es = list_any (λ e. e.id == id) es
 
 -- No two entries have one id.
 abbrev pub distinct : List Entry → Bool

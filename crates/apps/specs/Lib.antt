@@ -1,9 +1,9 @@
+pub mod Replies
 pub mod Purse
 pub mod PurseState
 pub mod Files
 pub mod FileTables
 pub mod FilePlaces
-pub mod FileSlots
 pub mod FileValues
 pub mod FileReplies
 pub mod PurseReplies

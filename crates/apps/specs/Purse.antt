@@ -1,4 +1,5 @@
-use Rattle.std.specs.Prelude.{◌≡◌, ℕ, ◌+◌, ◌*◌, ◌/◌, ◌%◌, Bool, cond, not, ◌&&◌, ◌||◌, T, List, [], ◌∷◌, ◌++◌, length, take, ℤ, pos, negsuc, ◌+ℤ◌, ◌-ℤ◌, neg_ℤ, Ok, Err, fold, Result, ◌==◌, ◌≢◌, int_le, nat_le}
+use Rattle.std.specs.Prelude.{◌≡◌, ℕ, ◌+◌, ◌*◌, ◌/◌, ◌%◌, ◌≤◌, Bool, cond, not, ◌&&◌, ◌||◌, T, List, [], ◌∷◌, ◌++◌, length, take, ℤ, pos, negsuc, ◌+ℤ◌, ◌-ℤ◌, neg_ℤ, Ok, Err, fold, Result, ◌==◌, ◌≢◌, int_le, nat_le}
+use Rattle.std.specs.Result.{result_map_both}
 use Rattle.apdu.specs.Applications.{Outcome}
 use Rattle.apdu.specs.Statuses.{done, wrong_length, conditions_not_met, wrong_data, wrong_parameters, unknown_instruction, unknown_class}
 use Rattle.apdu.specs.declared.status.Status.{Status}
@@ -39,6 +40,12 @@ recorded ms m = cond (nat_le places (length ms)) (joined ms) ms ++ (m ∷ [])
 abbrev pub Sound : List ℤ → Type 0
 Sound ms = (n : ℕ) → T (within (balance (take n ms)))
 
+-- What a purse holds: at most 32 movements, after each of which the balance lay in its limits, so that no sum of them
+-- overflows.
+pub record Kept (ms : List ℤ) : Type 0 where
+  pub few : length ms ≤ places
+  pub sound : Sound ms
+
 -- The number that bytes are, high first.
 abbrev pub number_of : List ℕ → ℕ
 number_of bytes = fold (λ n b. n * 256 + b) 0 bytes
@@ -74,6 +81,10 @@ amount_of body =
     cond (not (length body == 4)) (Err wrong_length)
     (cond (not (proper (number_of body))) (Err wrong_data)
     (Ok (number_of body)))
+
+-- The same amount, as a movement.
+abbrev pub amount_in : List ℕ → Result ℤ Status
+amount_in body = result_map_both pos (λ why. why) (amount_of body)
 
 -- An amount makes the movement that `way` says.
 abbrev pub move_amount : List ℤ → (ℕ → ℤ) → Result ℕ Status → Outcome (List ℤ)

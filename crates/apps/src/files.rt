@@ -1,7 +1,6 @@
-ghost use Rattle.std.specs.Prelude.{◌≡◌, ◌-◌, ◌≤◌, drop, replicate};
-ghost use Rattle.apps.specs.FileSlots.{vacant};
-
 use crate::files::slot::Slot;
+use arrayvec::ArrayVec;
+use std::marker::Model;
 
 mod application;
 mod commands;
@@ -14,12 +13,23 @@ mod tests;
 
 pub use entry::Entry;
 
-// The files of a card, in the first `count` slots (the others are vacant), and the id of the current one, if any.
+// The most files of a card.
+const PLACES: usize = 8;
+
+// The files of a card, and the id of the current one, if any.
 #[derive(Drop)]
 pub struct Files {
-    count: usize,
-    slots: [Slot; 8],
+    slots: ArrayVec<Slot, PLACES>,
     current: Option<u16>,
-    ghost few: { count ≤ 8 },
-    ghost rest: { drop count slots ≡ replicate (8 - count) vacant },
+}
+
+impl Model for Files {
+    ghost use Rattle.std.specs.Prelude.{◌≤◌, length};
+    ghost use Rattle.apps.specs.Files.{Shelf};
+
+    ghost Value = { Shelf };
+
+    ghost view = { λ f. record { files = f.slots.items; current = f.current } };
+
+    ghost invariant = { λ f. length f.slots.items ≤ 8 };
 }

@@ -1,5 +1,5 @@
-ghost use Rattle.std.specs.Prelude.{◌≡◌, ◌-◌, ◌≤◌, take, drop, replicate, pos};
-ghost use Rattle.apps.specs.Purse.{Sound, places};
+use arrayvec::ArrayVec;
+use std::marker::Model;
 
 // The most movements that a purse holds.
 const PLACES: usize = 32;
@@ -7,15 +7,21 @@ const PLACES: usize = 32;
 // The most cents of a balance and of an amount.
 const LIMIT: u32 = 1_000_000;
 
-// A purse: its movements in cents, the oldest first, in the first `count` places; the other places are 0. There are at most
-// 32, and after each of them the balance lay in its limits, so that no sum of them overflows.
+// A purse, seen as the list of its movements in cents, the oldest first.
 #[derive(Drop)]
 pub struct Purse {
-    count: usize,
-    movements: [i32; PLACES],
-    ghost few: { count ≤ places },
-    ghost sound: { Sound (take count movements) },
-    ghost clear: { drop count movements ≡ replicate (places - count) (pos 0) },
+    movements: ArrayVec<i32, PLACES>,
+}
+
+impl Model for Purse {
+    ghost use Rattle.std.specs.Prelude.{List, ℤ};
+    ghost use Rattle.apps.specs.Purse.{Kept};
+
+    ghost Value = { List ℤ };
+
+    ghost view = { λ p. p.movements.items };
+
+    ghost invariant = { λ p. Kept p.movements.items };
 }
 
 mod commands;

@@ -1,48 +1,9 @@
-use Rattle.std.proofs.Common.{◌≡◌, ℕ, eqb, ltb, List, [], ◌∷◌, ◌++◌, length, Some, None, Option, sym, refl, ap, ◌∙◌, append-nil}
-use Rattle.std.proofs.lemmas.Bool.{cond_both}
-use Rattle.script.specs.Lines as lines
-use Rattle.script.specs.Readings.{Reading, Stepped, Out, more, line, bad, fed, finished, judged, shown}
-use Rattle.script.specs.Scripts.{placed}
+use Rattle.std.proofs.Common.{◌≡◌, ℕ, List, [], ◌∷◌, ◌++◌, sym, refl, ap, ◌∙◌, append-nil}
+use Rattle.script.specs.Readings.{Out, more, line, bad, fed, finished}
 use Rattle.script.specs.Steps.{brought, noted}
-use Rattle.script.specs.declared.reader.Stage.{Stage}
-use Rattle.script.specs.declared.reader.Step.{Step}
 use Rattle.script.proofs.ScriptLaws as laws
-use Rattle.cardtrace.specs.Traces.{Playing, Printed, played, printed, start}
-use Rattle.cardtrace.specs.Sessions.{Tracing, step_played, by_step, takes, prints, begins, TracesScripts}
-
-module _ (p : Playing) where
-  -- The code's step, with the command that the reader holds, says what the reader told.
-  abbrev Tells : Stepped → Type 0
-  Tells s = step_played p (shown s.out) s.after.command ≡ played p s.out
-
-  tells_judged : (r : Reading) (o : Option (lines.Line × Stage)) → Tells (judged r o)
-  tells_judged r None = refl
-  tells_judged r (Some (lines.link s, stage)) = refl
-  tells_judged r (Some (lines.damage k, stage)) = refl
-  tells_judged r (Some (lines.send u bytes, stage)) = refl
-  tells_judged r (Some (lines.reset u, stage)) = refl
-
-  pub tells_fed : (r : Reading) (b : ℕ) → Tells (fed r b)
-  tells_fed r b =
-      cond_both r.over _ _ Tells (λ _. refl)
-      (λ _. cond_both (eqb b 10) _ _ Tells (λ _. tells_judged r (placed r.stage (lines.line_of r.part)))
-      (λ _. cond_both (ltb (length r.part) 609) _ _ Tells (λ _. refl) (λ _. refl)))
-
-  pub tells_finished : (r : Reading) → Tells (finished r)
-  tells_finished r =
-      cond_both r.over _ _ Tells (λ _. refl)
-      (λ _. cond_both (eqb (length r.part) 0) _ _ Tells (λ _. refl)
-      (λ _. tells_judged r (placed r.stage (lines.line_of r.part))))
-
-  pub joins : (s : Stepped) (R : Reading) (st : Step) → R ≡ s.after → st ≡ shown s.out → Tells s → step_played p st R.command ≡ played p s.out
-  joins s R st e f t =
-      ap (λ (r : Reading). step_played p st r.command) e ∙ ap (λ (x : Step). step_played p x s.after.command) f ∙ t
-
-  pub closes : (s : Stepped) (R : Reading) (st : Step) → R ≡ s.after → st ≡ shown s.out → Tells s
-      → ◌≡◌ {A = Tracing} (record { reading = R; playing = (step_played p st R.command).after }) (by_step p s).after
-  closes s R st e f t =
-      ap (λ (q : Printed). record { reading = R; playing = q.after }) (joins s R st e f t)
-      ∙ ap (λ (r : Reading). record { reading = r; playing = (played p s.out).after }) e
+use Rattle.cardtrace.specs.Traces.{Playing, played, printed, start}
+use Rattle.cardtrace.specs.Sessions.{Tracing, takes, prints, begins, TracesScripts}
 
 -- What a step brings, put before what follows, is printed before it.
 printed_noted : (p : Playing) (o : Out) (os : List Out) → (played p o).text ++ printed (played p o).after os ≡ printed p (noted o os)

@@ -1,18 +1,12 @@
 use Rattle.std.specs.Prelude.{◌≡◌, ℕ, List, [], ◌∷◌, ◌++◌, Some, None, Ok, Err, Option, Result}
-use Rattle.apdu.specs.declared.refusal.SettingRefusal.{SettingRefusal}
-use Rattle.apps.specs.FileValues.{files_app}
-use Rattle.link.specs.Meant.{meant}
 use Rattle.link.specs.Turns.{send, restart}
-use Rattle.script.specs.Readers.{meaning}
 use Rattle.script.specs.Readings.{Reading, Stepped, fresh, fed, finished}
 use Rattle.script.specs.Scripts.{script}
 use Rattle.script.specs.Traces.{bad_line}
+use Rattle.script.specs.declared.line.Line as code
 use Rattle.script.specs.declared.line.Line.TheVariants.{Link, Damage, Send, Reset}
 use Rattle.script.specs.declared.reader.Refusal.TheVariants.{BadLine}
-use Rattle.script.specs.declared.reader.Step.TheVariants.{More, Refused}
-use Rattle.script.specs.declared.reader.Step.TheVariants as step
-use Rattle.script.specs.declared.reader.Step.{Step}
-use Rattle.cardtrace.specs.declared.session.Session.{Session}
+use Rattle.script.specs.declared.reader.Refusal.{Refusal}
 use Rattle.cardtrace.specs.Traces.{Playing, Printed, played, turn_played, start, trace}
 
 -- A session: a reading and a playing.
@@ -23,22 +17,14 @@ pub record Tracing : Type 0 where
 abbrev pub begins : Tracing
 begins = record { reading = fresh; playing = start }
 
--- The session that a value of the code is in.
-abbrev pub tracing : Session → Tracing
-tracing s = record { reading = meaning s.reader; playing = record { card = meant files_app s.card; turn = s.turn } }
-
-abbrev pub tracing_if : Result Session SettingRefusal → Option Tracing
-tracing_if (Ok s) = Some (tracing s)
-tracing_if (Err e) = None
-
 -- What the code makes of what its reader told: a send line's command lies with the reader.
-abbrev pub step_played : Playing → Step → List ℕ → Printed
-step_played p More command = record { after = p; text = [] }
-step_played p (step.Line (Link s)) command = record { after = p; text = [] }
-step_played p (step.Line (Damage k)) command = record { after = p; text = [] }
-step_played p (step.Line (Send u n)) command = turn_played p u (send command)
-step_played p (step.Line (Reset u)) command = turn_played p u restart
-step_played p (Refused (BadLine n)) command = record { after = p; text = bad_line n }
+abbrev pub step_played : Playing → Result (Option code.Line) Refusal → List ℕ → Printed
+step_played p (Ok None) command = record { after = p; text = [] }
+step_played p (Ok (Some (Link s))) command = record { after = p; text = [] }
+step_played p (Ok (Some (Damage k))) command = record { after = p; text = [] }
+step_played p (Ok (Some (Send u n))) command = turn_played p u (send command)
+step_played p (Ok (Some (Reset u))) command = turn_played p u restart
+step_played p (Err (BadLine n)) command = record { after = p; text = bad_line n }
 
 -- What a step leaves, and what it prints.
 pub record Traced : Type 0 where
@@ -47,6 +33,12 @@ pub record Traced : Type 0 where
 
 abbrev pub by_step : Playing → Stepped → Traced
 by_step p s = record { after = record { reading = s.after; playing = (played p s.out).after }; text = (played p s.out).text }
+
+-- A session that plays what its reader told.
+abbrev pub plays : Tracing → Result (Option code.Line) Refusal → Traced
+plays t step =
+    let p = step_played t.playing step t.reading.command in
+    record { after = record { reading = t.reading; playing = p.after }; text = p.text }
 
 -- One byte of the script.
 abbrev pub takes : Tracing → ℕ → Traced

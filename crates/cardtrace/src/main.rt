@@ -3,49 +3,35 @@
 // only the reading and the writing.
 #![tactic(auto)]
 
+mod player;
 mod session;
 
 use anyhow::anyhow;
-use script::trace::LINE_ROOM;
 use session::Session;
+use std::env;
 use std::fs::File;
-use std::io::{BufWriter, Read, Write};
-use std::{env, io};
-
-// Feeds a session some bytes of the script, and writes what it gives.
-fn feed<W: Write>(session: &mut Session, bytes: &[u8], output: &mut W) -> io::Result<()> {
-    for byte in bytes {
-        let mut line = [0u8; LINE_ROOM];
-        let length = session.push(*byte, &mut line);
-        output.write_all(&line[0..length])?;
-    }
-    Ok(())
-}
+use std::io::{BufReader, BufWriter, Read, Write};
 
 // Plays the script that an input holds.
-fn play<R: Read, W: Write>(input: &mut R, output: &mut W) -> anyhow::Result<()> {
+fn play<R: Read + Drop, W: Write>(
+    rt: &HostRuntime,
+    input: R,
+    output: &mut W,
+) -> anyhow::Result<()> {
     let Ok(mut session) = Session::new() else {
         return Err(anyhow!("the card could not be made"));
     };
-    for _ in 0..u64::MAX {
-        let mut chunk = [0u8; 4096];
-        let count = input.read(&mut chunk)?;
-        if count == 0 {
-            break;
-        }
-        feed(&mut session, &chunk[0..count], output)?;
+    for byte in BufReader::new(rt.alloc(), input)?.bytes() {
+        output.write_all(session.push(byte?).as_bytes())?;
     }
-    let mut line = [0u8; LINE_ROOM];
-    let length = session.finish(&mut line);
-    output.write_all(&line[0..length])?;
+    output.write_all(session.finish().as_bytes())?;
     output.flush()?;
     Ok(())
 }
 
 // The file that the one argument names, if there is one.
 fn argument(rt: &HostRuntime) -> anyhow::Result<Option<String>> {
-    let mut args = env::args(rt)?;
-    let _ = args.next();
+    let mut args = env::args(rt)?.skip(1);
     let named = args.next();
     if args.next().is_some() {
         return Err(anyhow!("usage: cardtrace [SCRIPT]"));
@@ -60,8 +46,8 @@ fn run(rt: &HostRuntime) -> anyhow::Result<()> {
     )?;
     let mut output = BufWriter::new(rt.alloc(), rt.stdout())?;
     match named {
-        Some(path) => play(&mut File::open(rt, path.as_str())?, &mut output),
-        None => play(&mut rt.stdin(), &mut output),
+        Some(path) => play(rt, File::open(rt, path.as_str())?, &mut output),
+        None => play(rt, rt.stdin(), &mut output),
     }
 }
 

@@ -1,4 +1,6 @@
-use Rattle.std.proofs.Common.{◌≡◌, ℕ, suc, ◌+◌, ◌≤◌, min, Bool, true, false, cond, ltb, leb, List, [], ◌∷◌, ◌++◌, length, take, set, Some, None, sym, refl, ap, ◌∙◌, append_assoc, append-nil, arith, length-set, ltb-false, ltb-true, leb-true}
+use Rattle.std.proofs.Common.{◌≡◌, ℕ, suc, ◌+◌, ◌≤◌, ◌-◌, min, Bool, true, false, cond, ltb, List, [], ◌∷◌, ◌++◌, length, take, set, Some, Option, sym, refl, ap, ◌∙◌, subst, append_assoc, append-nil, arith, length-set, ltb-false, ltb-true}
+use Rattle.std.specs.Borrow.{Bor}
+use Rattle.std.specs.Slice.{IsGetRangeResult}
 use Rattle.std.proofs.lemmas.List.{take_more_set}
 use Rattle.wire.specs.Records.{Kept, noted}
 
@@ -44,26 +46,20 @@ module _ {T : Type 0} where
       by ih true = ih (record { places = set k.places k.count x; count = k.count + 1 }) ∙ length-set k.places k.count x
       by ih false = ih k
 
-  -- What an empty list was handed, where its count says that all are held.
-  pub all_held : (blank places xs cs : List T) (n : ℕ) → length blank ≤ 65536 → (noted (record { places = blank; count = 0 }) xs).count ≡ n
-      → places ≡ (noted (record { places = blank; count = 0 }) xs).places → Some cs ≡ cond (leb n (length places)) (Some (take n places)) None → cs ≡ xs
-  all_held blank places xs cs n few en ep e = by (leb n (length places)) refl
-    where
-      empty : Kept T
-      empty = record { places = blank; count = 0 }
+  nothing_before : (ys xs : List T) → take 0 ys ++ xs ≡ xs
+  nothing_before [] xs = refl
+  nothing_before (y ∷ ys) xs = refl
 
-      by : (b : Bool) → leb n (length places) ≡ b → cs ≡ xs
-      by true t =
-          let l = leb-true n (length places) t in
-          let q : Some cs ≡ Some (take n places) = e ∙ ap (λ (b : Bool). cond b (Some (take n places)) None) t in
-          let long : length places ≡ length blank = ap length ep ∙ noted_long (record { places = blank; count = 0 }) xs in
-          let c = counted (record { places = blank; count = 0 }) xs (omega arith) in
-          let all : n ≡ length xs = omega (arith, c, en, long) in
-          let h = holds (record { places = blank; count = 0 }) xs (omega (arith, long)) (omega arith) in
-          let r : cs ≡ take n places = cc in
-          r ∙ ap (take n) ep ∙ ap (λ (m : ℕ). take m (noted (record { places = blank; count = 0 }) xs).places) (omega arith) ∙ h ∙ nothing blank
-        where
-          nothing : (ys : List T) → take 0 ys ++ xs ≡ xs
-          nothing [] = refl
-          nothing (y ∷ ys) = refl
-      by false t = let q : Some cs ≡ None = e ∙ ap (λ (b : Bool). cond b (Some (take n places)) None) t in absurd (let z : ◌≡◌ {A = ℕ} 0 1 = cc in omega arith)
+  -- What an empty list was handed, where as many places as its count can be lent.
+  pub all_held : (blank places xs : List T) (cs : Bor (List T)) (n : ℕ) (r : Option (Bor (List T))) → length blank ≤ 65536
+      → n ≡ (noted (record { places = blank; count = 0 }) xs).count → places ≡ (noted (record { places = blank; count = 0 }) xs).places
+      → IsGetRangeResult places 0 n r → r ≡ Some cs → cs.now ≡ xs
+  all_held blank places xs cs n r few en ep h e =
+      let k : IsGetRangeResult places 0 n (Some cs) = subst (IsGetRangeResult places 0 n) e h in
+      let fits : n ≤ length places = k.0.1 in
+      let part : cs.now ≡ take (n - 0) places = k.0.2 in
+      let long : length places ≡ length blank = ap length ep ∙ noted_long (record { places = blank; count = 0 }) xs in
+      let c = counted (record { places = blank; count = 0 }) xs (omega arith) in
+      let all : n ≡ length xs = omega (arith, c, en, long) in
+      let h = holds (record { places = blank; count = 0 }) xs (omega (arith, long)) (omega arith) in
+      part ∙ ap (take (n - 0)) ep ∙ ap (λ (m : ℕ). take m (noted (record { places = blank; count = 0 }) xs).places) (omega arith) ∙ h ∙ nothing_before blank xs

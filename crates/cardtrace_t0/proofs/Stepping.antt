@@ -1,15 +1,15 @@
-use Rattle.std.proofs.Common.{◌≡◌, ℕ, eqb, ltb, List, [], ◌∷◌, ◌++◌, length, IfOk, Some, None, Option, Result, sym, refl, ap, ◌∙◌, append-nil}
+use Rattle.std.proofs.Common.{◌≡◌, ℕ, eqb, ltb, List, [], ◌∷◌, ◌++◌, length, Some, None, Option, Result, sym, refl, ap, ◌∙◌, append-nil}
 use Rattle.std.proofs.lemmas.Bool.{cond_both}
-use Rattle.std.proofs.lemmas.Result.{IfOk-weaker}
 use Rattle.script.specs.Lines as lines
 use Rattle.script.specs.Readings.{Reading, Stepped, Out, more, line, bad, fed, finished, judged, shown}
 use Rattle.script.specs.Scripts.{placed}
 use Rattle.script.specs.Steps.{brought, noted}
 use Rattle.script.specs.declared.reader.Stage.{Stage}
-use Rattle.script.specs.declared.reader.Step.{Step}
+use Rattle.script.specs.declared.line.Line as code
+use Rattle.script.specs.declared.reader.Refusal.{Refusal}
 use Rattle.script.proofs.ScriptLaws as laws
 use Rattle.cardtrace_t0.specs.Plays.{Playing, Printed, played, printed, start}
-use Rattle.cardtrace_t0.specs.Sessions.{Tracing, step_played, by_step, takes, prints, begins, TracesScripts}
+use Rattle.cardtrace_t0.specs.Sessions.{Tracing, step_played, plays, by_step, takes, prints, begins, TracesScripts}
 use Rattle.cardtrace_t0.proofs.Whole.{whole}
 
 module _ (p : Playing) where
@@ -36,20 +36,16 @@ module _ (p : Playing) where
       (λ _. cond_both (eqb (length r.part) 0) _ _ Tells (λ _. refl)
       (λ _. tells_judged r (placed r.stage (lines.line_of r.part))))
 
-  pub joins : (s : Stepped) (R : Reading) (st : Step) → R ≡ s.after → st ≡ shown s.out → Tells s → step_played p st R.command ≡ played p s.out
+  joins : (s : Stepped) (R : Reading) (st : Result (Option code.Line) Refusal) → R ≡ s.after → st ≡ shown s.out → Tells s → step_played p st R.command ≡ played p s.out
   joins s R st e f t =
-      ap (λ (r : Reading). step_played p st r.command) e ∙ ap (λ (x : Step). step_played p x s.after.command) f ∙ t
+      ap (λ (r : Reading). step_played p st r.command) e ∙ ap (λ (x : Result (Option code.Line) Refusal). step_played p x s.after.command) f ∙ t
 
-  pub closes : (s : Stepped) (R : Reading) (st : Step) → R ≡ s.after → st ≡ shown s.out → Tells s
-      → ◌≡◌ {A = Tracing} (record { reading = R; playing = (step_played p st R.command).after }) (by_step p s).after
-  closes s R st e f t =
-      ap (λ (q : Printed). record { reading = R; playing = q.after }) (joins s R st e f t)
-      ∙ ap (λ (r : Reading). record { reading = r; playing = (played p s.out).after }) e
-
-  pub writes : {X Y : Type 0} (s : Stepped) (R : Reading) (st : Step) (r : Result X Y) (items old : List ℕ) → R ≡ s.after → st ≡ shown s.out → Tells s
-      → IfOk r (λ _. items ≡ old ++ (step_played p st R.command).text) → IfOk r (λ _. items ≡ old ++ (played p s.out).text)
-  writes s R st r items old e f t m =
-      IfOk-weaker r _ _ (λ x (h : items ≡ old ++ (step_played p st R.command).text). h ∙ ap (λ (q : Printed). old ++ q.text) (joins s R st e f t)) m
+  -- So a session that plays what its reader told does what the reading's step says.
+  pub plays_step : (s : Stepped) (R : Reading) (st : Result (Option code.Line) Refusal) → R ≡ s.after → st ≡ shown s.out → Tells s
+      → plays (record { reading = R; playing = p }) st ≡ by_step p s
+  plays_step s R st e f t =
+      ap (λ (q : Printed). record { after = record { reading = R; playing = q.after }; text = q.text }) (joins s R st e f t)
+      ∙ ap (λ (r : Reading). record { after = record { reading = r; playing = (played p s.out).after }; text = (played p s.out).text }) e
 
 -- What a step brings, put before what follows, is printed before it.
 printed_noted : (p : Playing) (o : Out) (os : List Out) → (played p o).text ++ printed (played p o).after os ≡ printed p (noted o os)

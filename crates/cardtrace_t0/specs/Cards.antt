@@ -6,11 +6,7 @@ use Rattle.link.specs.Meant.{quiet}
 use Rattle.script.specs.declared.line.Protocol.{Protocol}
 use Rattle.script.specs.declared.line.Protocol.TheVariants.{T0, T1}
 use Rattle.script.specs.declared.line.Settings as script
-use Rattle.script.specs.declared.line.Style as script-style
-use Rattle.script.specs.declared.line.Style.TheVariants as written
 use Rattle.t0.specs.declared.settings.Settings.{Settings}
-use Rattle.t0.specs.declared.settings.Style.{Style}
-use Rattle.t0.specs.declared.settings.Style.TheVariants.{Whole, Bytewise}
 use Rattle.t0link.specs.Links.{linked_by}
 use Rattle.wire.specs.MarkedLines.{at_marks}
 
@@ -18,14 +14,9 @@ use Rattle.wire.specs.MarkedLines.{at_marks}
 abbrev pub first_shelf : Shelf
 first_shelf = record { files = record { id = 0x2F01; bytes = 0x41 ∷ (0x42 ∷ []) } ∷ []; current = None }
 
--- The style that a link line says.
-abbrev pub style_said : script-style.Style → Style
-style_said written.Whole = Whole
-style_said written.Bytewise = Bytewise
-
 -- The card's settings that a link line says. It says at most 15 waits, so nothing is cut off here.
 abbrev pub settings_said : script.Settings → Settings
-settings_said s = record { waits = min s.waits 15; style = style_said s.style; few = min-le_right s.waits 15 }
+settings_said s = record { waits = min s.waits 15; style = s.style; few = min-le_right s.waits 15 }
 
 -- The link by its protocol: over T=0 with a line that damages the marked characters; for T=1 as yet the direct card.
 abbrev pub link_by : Protocol → script.Settings → List ℕ → Linked Shelf

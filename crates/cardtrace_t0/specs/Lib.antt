@@ -2,4 +2,3 @@ pub mod Cards
 pub mod Traces
 pub mod Sessions
 pub mod Plays
-pub mod Shared

@@ -1,20 +1,18 @@
-use Rattle.std.specs.Prelude.{◌≡◌, ℕ, Bool, true, false, List, [], ◌∷◌, ◌++◌, take}
+use Rattle.std.specs.Prelude.{◌≡◌, ℕ, Bool, true, false, List, [], ◌∷◌, ◌++◌, Some, None, Ok, Err, Option, Result}
 use Rattle.apps.specs.Files.{Shelf}
 use Rattle.apps.specs.FileValues.{files_app}
 use Rattle.apps.specs.declared.files.Files.{Files}
 use Rattle.link.specs.Meaning.{Linked}
 use Rattle.link.specs.Meant.{meant_link}
 use Rattle.link.specs.Turns.{send, restart}
-use Rattle.script.specs.Readers.{meaning}
 use Rattle.script.specs.Readings.{Reading, Stepped, fresh, fed, finished}
 use Rattle.script.specs.Scripts.{script}
 use Rattle.script.specs.Traces.{bad_line}
+use Rattle.script.specs.declared.line.Line as script_line
 use Rattle.script.specs.declared.line.Line.TheVariants.{Link, Damage, Send, Reset}
 use Rattle.script.specs.declared.reader.Refusal.TheVariants.{BadLine}
-use Rattle.script.specs.declared.reader.Step.TheVariants.{More, Refused}
-use Rattle.script.specs.declared.reader.Step.TheVariants as step
-use Rattle.script.specs.declared.reader.Step.{Step}
-use Rattle.t0link.specs.Links.{linked_by}
+use Rattle.script.specs.declared.reader.Refusal.{Refusal}
+use Rattle.t0link.specs.Links.{link_of}
 use Rattle.t0link.specs.declared.t0_link.T0Link.{T0Link}
 use Rattle.wire.specs.MarkedLines.{at_marks, marks_of}
 use Rattle.wire.specs.declared.marked.MarkedLine.{MarkedLine}
@@ -34,34 +32,38 @@ begins = record { reading = fresh; playing = start }
 
 -- The link that the code's T=0 link means.
 abbrev pub t0_link_of : T0Link Files MarkedLine → Linked Shelf
-t0_link_of l = linked_by l.card.settings (at_marks (marks_of l.line) l.line.at) (files_app.state l.card.app) l.lost
+t0_link_of = link_of files_app (λ line. at_marks (marks_of line) line.at)
 
 -- Where a value of the code stands.
 abbrev pub stand_of : code.Stand → Stand
 stand_of Unlinked = unlinked
-stand_of (Opening o) = opening o.settings (take o.count o.marks)
+stand_of (Opening s marks) = opening s marks.items
 stand_of (OverT0 l) = over (t0_link_of l)
 stand_of (Direct l) = over (meant_link files_app l)
 
+-- Whether a stand is the direct card.
+abbrev pub is_direct : code.Stand → Bool
+is_direct Unlinked = false
+is_direct (Opening s marks) = false
+is_direct (OverT0 l) = false
+is_direct (Direct l) = true
+
 -- Whether turns are played on the direct card.
-abbrev pub on_direct : code.Stand → Bool
-on_direct Unlinked = false
-on_direct (Opening o) = false
-on_direct (OverT0 l) = false
-on_direct (Direct l) = true
+abbrev pub on_direct : Session → Bool
+on_direct s = is_direct s.stand
 
 -- The session that a value of the code is in.
 abbrev pub tracing : Session → Tracing
-tracing s = record { reading = meaning s.reader; playing = record { stand = stand_of s.stand; turn = s.turn } }
+tracing s = record { reading = s.reader; playing = record { stand = stand_of s.stand; turn = s.turn } }
 
 -- What the code makes of what its reader told: a send line's command lies with the reader.
-abbrev pub step_played : Playing → Step → List ℕ → Printed
-step_played p More command = quietly p
-step_played p (step.Line (Link s)) command = quietly (record { stand = linked_up p.stand s; turn = p.turn })
-step_played p (step.Line (Damage k)) command = quietly (record { stand = marked p.stand k; turn = p.turn })
-step_played p (step.Line (Send u n)) command = turn_played p u (send command)
-step_played p (step.Line (Reset u)) command = turn_played p u restart
-step_played p (Refused (BadLine n)) command = record { after = p; text = bad_line n }
+abbrev pub step_played : Playing → Result (Option script_line.Line) Refusal → List ℕ → Printed
+step_played p (Ok None) command = quietly p
+step_played p (Ok (Some (Link s))) command = quietly (record { stand = linked_up p.stand s; turn = p.turn })
+step_played p (Ok (Some (Damage k))) command = quietly (record { stand = marked p.stand k; turn = p.turn })
+step_played p (Ok (Some (Send u n))) command = turn_played p u (send command)
+step_played p (Ok (Some (Reset u))) command = turn_played p u restart
+step_played p (Err (BadLine n)) command = record { after = p; text = bad_line n }
 
 -- What a step leaves, and what it prints.
 pub record Traced : Type 0 where
@@ -70,6 +72,12 @@ pub record Traced : Type 0 where
 
 abbrev pub by_step : Playing → Stepped → Traced
 by_step p s = record { after = record { reading = s.after; playing = (played p s.out).after }; text = (played p s.out).text }
+
+-- A session that plays what its reader told.
+abbrev pub plays : Tracing → Result (Option script_line.Line) Refusal → Traced
+plays t step =
+    let p = step_played t.playing step t.reading.command in
+    record { after = record { reading = t.reading; playing = p.after }; text = p.text }
 
 -- One byte of the script.
 abbrev pub takes : Tracing → ℕ → Traced

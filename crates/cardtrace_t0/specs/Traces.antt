@@ -1,4 +1,4 @@
-use Rattle.std.specs.Prelude.{ℕ, Bool, cond, List, [], ◌∷◌, ◌++◌, replicate, Some, None, Option}
+use Rattle.std.specs.Prelude.{ℕ, List, [], ◌∷◌, ◌++◌, replicate, Some, None, Option}
 use Rattle.apps.specs.Files.{Shelf}
 use Rattle.apps.specs.FileValues.{files_app}
 use Rattle.link.specs.Meaning.{Linked, linked}
@@ -7,8 +7,6 @@ use Rattle.script.specs.Lines as lines
 use Rattle.script.specs.Scripts.{Script, following}
 use Rattle.script.specs.Traces.{character_line, turn_line, bad_line}
 use Rattle.script.specs.declared.trace.Outcome.TheVariants.{Status, Reset, Refusal}
-use Rattle.wire.specs.declared.traced.Sender.{Sender}
-use Rattle.wire.specs.declared.traced.Sender.TheVariants.{Terminal, Card}
 use Rattle.wire.specs.declared.traced.Traced.{Traced}
 use Rattle.cardtrace_t0.specs.Cards.{link_said}
 

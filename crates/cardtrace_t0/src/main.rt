@@ -6,68 +6,32 @@
 mod session;
 
 use anyhow::anyhow;
-use session::{Session, Trouble};
+use session::Session;
 use std::env;
 use std::fs::File;
-use std::io::{BufWriter, Read, Write};
-
-// What a failed session says.
-fn failure(trouble: Trouble) -> anyhow::Error {
-    match trouble {
-        Trouble::Memory => anyhow!("there is no memory for the text"),
-        Trouble::LongTrace => anyhow!(
-            "more characters crossed in a turn than the trace has places for"
-        ),
-    }
-}
-
-// Feeds a session some bytes of the script, and writes what it gives.
-fn feed<W: Write>(
-    session: &mut Session,
-    bytes: &[u8],
-    text: &mut Vec<u8>,
-    output: &mut W,
-) -> anyhow::Result<()> {
-    for byte in bytes {
-        if let Err(trouble) = session.push(*byte, text) {
-            output.flush()?;
-            return Err(failure(trouble));
-        }
-        output.write_all(text)?;
-        text.clear();
-    }
-    Ok(())
-}
+use std::io::{BufReader, BufWriter, Read, Write};
 
 // Plays the script that an input holds; whether it was played on the direct card.
-fn play<R: Read, W: Write>(
+fn play<R: Read + Drop, W: Write>(
     rt: &HostRuntime,
-    input: &mut R,
+    input: R,
     output: &mut W,
 ) -> anyhow::Result<bool> {
     let mut session = Session::new();
     let mut text = Vec::new(rt.alloc());
-    for _ in 0..u64::MAX {
-        let mut chunk = [0u8; 4096];
-        let count = input.read(&mut chunk)?;
-        if count == 0 {
-            break;
-        }
-        feed(&mut session, &chunk[0..count], &mut text, output)?;
+    for byte in BufReader::new(rt.alloc(), input)?.bytes() {
+        session.push(byte?, &mut text)?;
+        output.write_all(&text)?;
+        text.clear();
     }
-    if let Err(trouble) = session.finish(&mut text) {
-        output.flush()?;
-        return Err(failure(trouble));
-    }
+    session.finish(&mut text)?;
     output.write_all(&text)?;
-    output.flush()?;
     Ok(session.is_direct())
 }
 
 // The file that the one argument names, if there is one.
 fn argument(rt: &HostRuntime) -> anyhow::Result<Option<String>> {
-    let mut args = env::args(rt)?;
-    let _ = args.next();
+    let mut args = env::args(rt)?.skip(1);
     let named = args.next();
     if args.next().is_some() {
         return Err(anyhow!("usage: cardtrace [SCRIPT]"));
@@ -76,13 +40,14 @@ fn argument(rt: &HostRuntime) -> anyhow::Result<Option<String>> {
 }
 
 fn run(rt: &HostRuntime) -> anyhow::Result<()> {
-    let named = argument(rt)?;
     let mut output = BufWriter::new(rt.alloc(), rt.stdout())?;
-    let direct = match named {
-        Some(path) => play(rt, &mut File::open(rt, path.as_str())?, &mut output)?,
-        None => play(rt, &mut rt.stdin(), &mut output)?,
+    let played = match argument(rt)? {
+        Some(path) => play(rt, File::open(rt, path.as_str())?, &mut output),
+        None => play(rt, rt.stdin(), &mut output),
     };
-    if direct {
+    // What was played before a failure is printed too.
+    output.flush()?;
+    if played? {
         eprintln!(rt;
             "cardtrace: T=1 is played on the direct card as yet: no character lines, and damage has no effect"
         )?;

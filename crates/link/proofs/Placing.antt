@@ -1,4 +1,4 @@
-use Rattle.std.proofs.Common.{◌≡◌, ℕ, ◌≤◌, Bool, true, false, cond, eqb, List, length, take, drop, refl, ap, arith, length-take, take_at}
+use Rattle.std.proofs.Common.{◌≡◌, ℕ, Bool, true, false, cond, eqb, List, length, take, drop, refl, ap, take_at}
 use Rattle.apdu.specs.Applications.{App, does, opened}
 use Rattle.apdu.specs.Commands.{command_of}
 use Rattle.apdu.specs.Judging.{Judged, judged}
@@ -41,11 +41,8 @@ module _ {V : Type 0} (app : App V) where
   sound l (send bytes) b = sound_sent l bytes b (judged bytes (length b)) (judges bytes (length b))
   sound l restart b = unless l.lost _ _ (refl, refl) (fated l reset (app.resets l.state) restarted b b (crossed l reset).characters (crossed l reset).fate tt)
 
--- So the bytes that it takes up are that many, and there are that many.
+-- So the bytes that it takes up are that many.
 pub long : (g : Gave) (b : List ℕ) → Placed g b → length (take (taken g) b) ≡ taken g
 long (gives bytes s) b h = ap length h
 long restarted b h = refl
 long (denied n) b h = refl
-
-pub taken_fits : (g : Gave) (b : List ℕ) → Placed g b → taken g ≤ length b
-taken_fits g b h = omega (arith, long g b h, length-take (taken g) b)

@@ -1,4 +1,4 @@
-use Rattle.std.specs.Prelude.{◌≡◌, ℕ, zero, suc, ◌+◌, true, false, List, [], ◌∷◌, Some, None}
+use Rattle.std.specs.Prelude.{◌≡◌, ℕ, zero, suc, ◌+◌, false, List, [], ◌∷◌, Some, None}
 use Rattle.apdu.specs.Applications.{App}
 use Rattle.apdu.specs.Statuses.{done}
 use Rattle.link.specs.Direct.{direct}

@@ -1,4 +1,4 @@
-use Rattle.std.specs.Prelude.{◌≡◌, ℕ, min, List, length, take, Ok, Err, Result}
+use Rattle.std.specs.Prelude.{◌≡◌, ℕ, min, List, length, take, Some, None, Ok, Err, Option, Result}
 use Rattle.apdu.specs.Applications.{App, does, opened}
 use Rattle.apdu.specs.Commands.{Command}
 use Rattle.apdu.specs.Refusals.{number}
@@ -24,6 +24,18 @@ abbrev pub reset_gave : Result (Unit {0}) Refusal → Gave
 reset_gave (Ok _) = restarted
 reset_gave (Err e) = denied (number e)
 
+-- What the result of a turn and the answer buffer after it say that the turn gave.
+abbrev pub turn_gave : Result (Option (ℕ × Status)) Refusal → List ℕ → Gave
+turn_gave (Ok (Some p)) buffer = gives (take p.0 buffer) p.1
+turn_gave (Ok None) buffer = restarted
+turn_gave (Err e) buffer = denied (number e)
+
+-- The count of answer bytes in the result of a turn; a reset and a refusal have none.
+abbrev pub turn_count : Result (Option (ℕ × Status)) Refusal → ℕ
+turn_count (Ok (Some p)) = p.0
+turn_count (Ok None) = 0
+turn_count (Err e) = 0
+
 -- The answer bytes that a command is to have of its answer: the first Ne, as far as there is room.
 abbrev pub wanted_of : Command → ℕ → List ℕ → List ℕ
 wanted_of c room answer = take (min c.ne room) answer
@@ -48,6 +60,13 @@ pub record Resets {M : Type 0} (d : Did M) (m : M) (r : Result (Unit {0}) Refusa
   pub after : m ≡ d.after
   pub gave : reset_gave r ≡ d.gave
 
+-- All that a turn, a send or a reset, did is what `d` says: what took it, each byte of the answer buffer, and the result.
+pub record Takes {M : Type 0} (d : Did M) (m : M) (buffer : List ℕ) (r : Result (Option (ℕ × Status)) Refusal) : Type 0 where
+  pub after : m ≡ d.after
+  pub wrote : buffer ≡ d.buffer
+  pub gave : turn_gave r buffer ≡ d.gave
+  pub count : turn_count r ≡ taken d.gave
+
 -- All that a send over a link did is what `d` says, and the trace grew by the characters that crossed.
 pub record LinkSends {M : Type 0} (d : Did M) (m : M) (buffer : List ℕ) (r : Result (ℕ × Status) Refusal) (t u : Record Traced) : Type 0 where
   pub turn : Sends d m buffer r
@@ -56,4 +75,9 @@ pub record LinkSends {M : Type 0} (d : Did M) (m : M) (buffer : List ℕ) (r : R
 -- All that a reset over a link did is what `d` says, and the trace grew by the characters that crossed.
 pub record LinkResets {M : Type 0} (d : Did M) (m : M) (r : Result (Unit {0}) Refusal) (t u : Record Traced) : Type 0 where
   pub turn : Resets d m r
+  pub trace : Grew t u d.characters
+
+-- All that a turn over a link did is what `d` says, and the trace grew by the characters that crossed.
+pub record LinkTakes {M : Type 0} (d : Did M) (m : M) (buffer : List ℕ) (r : Result (Option (ℕ × Status)) Refusal) (t u : Record Traced) : Type 0 where
+  pub turn : Takes d m buffer r
   pub trace : Grew t u d.characters

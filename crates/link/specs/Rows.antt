@@ -29,14 +29,11 @@ abbrev pub rows : {M : Type 0} → ℕ → List (Went M) → List Row
 rows place [] = []
 rows place (w ∷ ws) = row_of w.program place w.did.gave ∷ rows (place + taken w.did.gave) ws
 
--- The row of a send and of a reset by their results.
-abbrev pub row_of_send : ℕ → ℕ → Result (ℕ × Status) Refusal → Row
-row_of_send program place (Ok p) = done_row program place p.0 p.1
-row_of_send program place (Err e) = refused_row program place (number e)
-
-abbrev pub row_of_reset : ℕ → ℕ → Result (Unit {0}) Refusal → Row
-row_of_reset program place (Ok _) = restarted_row program place
-row_of_reset program place (Err e) = refused_row program place (number e)
+-- The row of a turn by its result.
+abbrev pub row_of_result : ℕ → ℕ → Result (Option (ℕ × Status)) Refusal → Row
+row_of_result program place (Ok (Some p)) = done_row program place p.0 p.1
+row_of_result program place (Ok None) = restarted_row program place
+row_of_result program place (Err e) = refused_row program place (number e)
 
 -- What a turn that was done gave, where its two status bytes are a status.
 abbrev pub gave_with : List ℕ → Option Status → Option Gave

@@ -1,19 +1,15 @@
-use Rattle.std.specs.Prelude.{◌≡◌, ℕ, ◌+◌, cond, List, [], ◌∷◌, ◌++◌, length, take, Ok, Err, Result, ◌==◌, nat_lt}
+use Rattle.std.specs.Prelude.{◌≡◌, ℕ, ◌+◌, cond, List, [], ◌∷◌, ◌++◌, length, take, Ok, Err, Result, nat_lt}
 use Rattle.apdu.specs.Applications.{App}
 use Rattle.wire.specs.Records.{Grew, kept, free_places}
 use Rattle.wire.specs.declared.record.Record.{Record}
 use Rattle.wire.specs.declared.traced.Traced.{Traced}
 use Rattle.link.specs.Meaning.{Linked, linked}
 use Rattle.link.specs.Rows.{row_of, rows}
-use Rattle.link.specs.Turns.{Did, Played, called, Call, placed, taken, all_taken, whole_trace}
+use Rattle.link.specs.Turns.{Did, Played, called, Call, taken, all_taken, whole_trace}
 use Rattle.link.specs.declared.refusal.RunRefusal.{RunRefusal}
 use Rattle.link.specs.declared.refusal.RunRefusal.TheVariants.{JournalFull}
 use Rattle.link.specs.declared.row.Row.{Row}
 use Rattle.link.specs.declared.turn.Turn.{Turn}
-
--- The bytes that a turn sends: a place in lent bytes for tag 0, none for any other tag.
-abbrev pub turn_command : List ℕ → Turn → List ℕ
-turn_command commands t = cond (t.tag == 0) (placed commands t.start t.length) []
 
 -- All that one turn of a run did is what `d` says, where `d` had the data buffer from the first free byte on as its answer
 -- buffer: what took the turn, each byte of the data buffer, the first byte that is then free, the row noted in the journal, and

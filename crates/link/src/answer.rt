@@ -15,6 +15,6 @@ pub fn run_command<A: Application>(
     let mut buffer = [0u8; 256];
     let (count, status) = app.run(command.header, command.body, &mut buffer);
     let n = count.min(command.ne).min(answer.len());
-    answer[0..n].copy_from_slice(&buffer[0..n]);
+    answer[..n].copy_from_slice(&buffer[..n]);
     (n, status)
 }

@@ -2,11 +2,12 @@ ghost use Rattle.std.specs.Prelude.{◌≡◌, ◌≤◌, [], length};
 ghost use Rattle.apdu.specs.Applications.{does, opened};
 ghost use Rattle.apdu.specs.Judging.{parts};
 ghost use Rattle.link.specs.Direct.{directly, over, nearer};
-ghost use Rattle.link.specs.Meant.{meant};
+ghost use Rattle.link.specs.Meant.{meant, meant_order};
 ghost use Rattle.link.specs.Turns.{send, restart};
-ghost use Rattle.link.specs.Results.{Sends, Resets};
+ghost use Rattle.link.specs.Results.{Sends, Resets, Takes};
 
 use crate::answer::run_command;
+use crate::turn::Order;
 use apdu::{Application, Command, Refusal, Status, judge};
 
 // The direct card: an application with no link between it and the box. It may be told after how many turns a link was lost;
@@ -45,6 +46,20 @@ impl<A: Application> DirectCard<A> {
         }
         self.app.reset();
         Ok(())
+    }
+
+    // One turn, a send or a reset: as `send` gives it, and None for a reset that was done.
+    pub fn take(
+        &mut self,
+        order: Order<'_>,
+        answer: &mut [u8],
+    ) -> Result<Option<(usize, Status)>, Refusal>
+        ensures { Takes (directly A.Application.means (meant A.Application.means self.old) (meant_order order.entry) answer.old) (meant A.Application.means self.new) answer.new result }
+    {
+        match order {
+            Order::Send(command) => self.send(command, answer).map(Some),
+            Order::Reset => self.reset().map(|_| None),
+        }
     }
 
     // Counts a turn towards the loss that was told; whether it has come.

@@ -4,13 +4,11 @@ ghost use Rattle.std.proofs.Common.{rules};
 
 use crate::direct::DirectCard;
 use crate::direct_link::DirectLink;
-use crate::link::Link;
+use crate::link::{Link, take};
 use crate::row::Row;
 use crate::running::run;
-use crate::turn::Turn;
+use crate::turn::{Order, Turn};
 use apdu::{Application, Header, Refusal, Status};
-use std::process::Abort;
-use std::test::Fail;
 use wire::{Record, Sender, Traced};
 
 // Counts its runs, and answers its count and 7 with status 9000; a reset begins at 0.
@@ -63,34 +61,20 @@ fn turn(tag: u8, start: usize, length: usize) -> Turn {
     }
 }
 
-// The number of the refusal, or 0 where the turn was done.
-fn sent(res: Result<(usize, Status), Refusal>) -> u8 {
-    match res {
-        Ok(_) => 0,
-        Err(e) => u8::from(e),
+fn row(kind: u8, sw1: u8, sw2: u8, place: usize, length: usize) -> Row {
+    Row {
+        program: 3,
+        kind,
+        sw1,
+        sw2,
+        place,
+        length,
     }
-}
-
-fn was_reset(res: Result<(), Refusal>) -> u8 {
-    match res {
-        Ok(_) => 0,
-        Err(e) => u8::from(e),
-    }
-}
-
-// A row as kind, SW1, SW2, place, length.
-fn row_is(rt: &impl Abort, row: Row, kind: u8, sw1: u8, sw2: u8, place: usize, length: usize) {
-    assert_eq!(rt; row.program, 3);
-    assert_eq!(rt; row.kind, kind);
-    assert_eq!(rt; row.sw1, sw1);
-    assert_eq!(rt; row.sw2, sw2);
-    assert_eq!(rt; row.place, place);
-    assert_eq!(rt; row.length, length);
 }
 
 // A read, a turn with tag 2, a read whose place passes the end, a reset, a read that finds one byte left.
 #[test]
-fn a_run_shares_the_data_buffer_out(rt: HostRuntime) -> Result<(), Fail> {
+fn a_run_shares_the_data_buffer_out(rt: HostRuntime) {
     let mut link = DirectLink::new(Counter { count: 5 });
     let turns = [
         turn(0, 0, 5),
@@ -114,22 +98,23 @@ fn a_run_shares_the_data_buffer_out(rt: HostRuntime) -> Result<(), Fail> {
     );
     assert_eq!(rt; trace.count(), 0);
     assert_eq!(rt; journal.count(), 5);
-    match used {
-        Ok(n) => assert_eq!(rt; n, 2),
-        Err(_) => return Err(Fail::new("refused")),
-    }
-    row_is(&rt, rows[0], 0, 0x90, 0x00, 0, 2);
-    row_is(&rt, rows[1], 1, 0, 0, 2, 0);
-    row_is(&rt, rows[2], 1, 0, 0, 2, 0);
-    row_is(&rt, rows[3], 16, 0, 0, 2, 0);
-    row_is(&rt, rows[4], 4, 0, 0, 2, 0);
+    assert_eq!(rt; used, Ok(2));
+    assert_eq!(rt;
+        rows,
+        [
+            row(0, 0x90, 0x00, 0, 2),
+            row(1, 0, 0, 2, 0),
+            row(1, 0, 0, 2, 0),
+            row(16, 0, 0, 2, 0),
+            row(4, 0, 0, 2, 0),
+        ]
+    );
     assert_eq!(rt; data, [5, 7, 9]);
-    Ok(())
 }
 
 // Two turns and one free place.
 #[test]
-fn a_full_journal_takes_no_turn(rt: HostRuntime) -> Result<(), Fail> {
+fn a_full_journal_takes_no_turn(rt: HostRuntime) {
     let mut link = DirectLink::new(Counter { count: 5 });
     let turns = [turn(0, 0, 5), turn(0, 0, 5)];
     let mut data = [0, 0, 9];
@@ -146,13 +131,9 @@ fn a_full_journal_takes_no_turn(rt: HostRuntime) -> Result<(), Fail> {
         &mut trace,
     );
     assert_eq!(rt; journal.count(), 0);
-    match refused {
-        Ok(_) => return Err(Fail::new("not refused")),
-        Err(e) => assert_eq!(rt; e.number(), 8),
-    }
-    assert_eq!(rt; rows[0].kind, 99);
+    assert_eq!(rt; refused.map_err(u8::from), Err(8));
+    assert_eq!(rt; rows, [NO_ROW]);
     assert_eq!(rt; data, [0, 0, 9]);
-    Ok(())
 }
 
 // A direct card that is told a loss after one turn: a refusal comes before the loss, a reset is lost too.
@@ -160,11 +141,14 @@ fn a_full_journal_takes_no_turn(rt: HostRuntime) -> Result<(), Fail> {
 fn the_direct_card_falls_silent_at_the_loss(rt: HostRuntime) {
     let mut card = DirectCard::new(Counter { count: 5 }, Some(1));
     let mut answer = [0, 0, 9];
-    assert_eq!(rt; sent(card.send(&READ_TWO, &mut answer)), 0);
+    assert_eq!(rt; card.send(&READ_TWO, &mut answer).err(), None);
     assert_eq!(rt; answer, [5, 7, 9]);
-    assert_eq!(rt; sent(card.send(&READ_TWO, &mut answer)), 5);
-    assert_eq!(rt; sent(card.send(b"", &mut answer)), 1);
-    assert_eq!(rt; was_reset(card.reset()), 5);
+    assert_eq!(rt;
+        card.send(&READ_TWO, &mut answer).err(),
+        Some(Refusal::Lost)
+    );
+    assert_eq!(rt; card.send(b"", &mut answer).err(), Some(Refusal::Malformed));
+    assert_eq!(rt; card.reset().err(), Some(Refusal::Lost));
     assert_eq!(rt; answer, [5, 7, 9]);
 }
 
@@ -175,14 +159,45 @@ fn a_direct_link_carries_every_turn(rt: HostRuntime) {
     let mut places = [NO_CHARACTER; 1];
     let mut trace = Record::new(&mut places);
     let mut answer = [0, 0, 9];
-    assert_eq!(rt; sent(link.send(&READ_TWO, &mut answer, &mut trace)), 0);
+    assert_eq!(rt; link.send(&READ_TWO, &mut answer, &mut trace).err(), None);
     assert_eq!(rt; answer, [5, 7, 9]);
     let mut short = [9];
-    assert_eq!(rt; sent(link.send(&READ_TWO, &mut short, &mut trace)), 4);
+    assert_eq!(rt;
+        link.send(&READ_TWO, &mut short, &mut trace).err(),
+        Some(Refusal::Room)
+    );
     assert_eq!(rt; short, [9]);
-    assert_eq!(rt; was_reset(link.reset(&mut trace)), 0);
+    assert_eq!(rt; link.reset(&mut trace).err(), None);
     let mut again = [9, 9];
-    assert_eq!(rt; sent(link.send(&READ_TWO, &mut again, &mut trace)), 0);
+    assert_eq!(rt; link.send(&READ_TWO, &mut again, &mut trace).err(), None);
     assert_eq!(rt; again, [0, 7]);
+    assert_eq!(rt; trace.count(), 0);
+}
+
+// A read, a reset, a read whose buffer is too short, at the direct card and over a link.
+#[test]
+fn one_function_takes_any_order(rt: HostRuntime) {
+    let mut card = DirectCard::new(Counter { count: 5 }, None);
+    let mut link = DirectLink::new(Counter { count: 5 });
+    let mut places = [NO_CHARACTER; 1];
+    let mut trace = Record::new(&mut places);
+    let mut answer = [0, 0, 9];
+    let read = turn(0, 0, 5).order(&READ_TWO);
+    assert_eq!(rt; read, Order::Send(&READ_TWO));
+    let done = Ok(Some((2, Status::done())));
+    assert_eq!(rt; card.take(read, &mut answer), done);
+    assert_eq!(rt; answer, [5, 7, 9]);
+    assert_eq!(rt; card.take(Order::Reset, &mut answer), Ok(None));
+    assert_eq!(rt; card.take(read, &mut answer[0..1]), Err(Refusal::Room));
+    assert_eq!(rt; take(&mut link, read, &mut answer, &mut trace), done);
+    assert_eq!(rt;
+        take(&mut link, Order::Reset, &mut answer, &mut trace),
+        Ok(None)
+    );
+    assert_eq!(rt;
+        take(&mut link, read, &mut answer[0..1], &mut trace),
+        Err(Refusal::Room)
+    );
+    assert_eq!(rt; answer, [5, 7, 9]);
     assert_eq!(rt; trace.count(), 0);
 }

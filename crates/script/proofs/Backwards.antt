@@ -4,8 +4,8 @@ use Rattle.std.proofs.lemmas.Bool.Decides.{nat_tests}
 use Rattle.std.specs.List.{AllByRecursion}
 use Rattle.script.specs.declared.line.Protocol.{Protocol}
 use Rattle.script.specs.declared.line.Protocol.TheVariants.{T0, T1}
-use Rattle.script.specs.declared.line.Style.{Style}
-use Rattle.script.specs.declared.line.Style.TheVariants.{Whole, Bytewise}
+use Rattle.t0.specs.declared.settings.Style.{Style}
+use Rattle.t0.specs.declared.settings.Style.TheVariants.{Whole, Bytewise}
 use Rattle.script.specs.declared.line.Settings.{Settings}
 use Rattle.script.specs.Fields.{split, is_digit, all_digits, well_led, number}
 use Rattle.script.specs.Hex.{hex, hex_digit, hex_value, is_hex, all_hex, pairs, command_of}

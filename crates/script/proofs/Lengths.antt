@@ -3,8 +3,8 @@ use Rattle.std.proofs.lemmas.Fmt.{length-decimal-le}
 use Rattle.std.proofs.lemmas.List.{length-append}
 use Rattle.script.specs.declared.line.Protocol.{Protocol}
 use Rattle.script.specs.declared.line.Protocol.TheVariants.{T0, T1}
-use Rattle.script.specs.declared.line.Style.{Style}
-use Rattle.script.specs.declared.line.Style.TheVariants.{Whole, Bytewise}
+use Rattle.t0.specs.declared.settings.Style.{Style}
+use Rattle.t0.specs.declared.settings.Style.TheVariants.{Whole, Bytewise}
 use Rattle.script.specs.declared.line.Settings.{Settings}
 use Rattle.script.specs.Hex.{hex}
 use Rattle.script.specs.Lines.{Line, link, damage, send, reset, line_of, printed, protocol_text, style_text, Within}

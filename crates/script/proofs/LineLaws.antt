@@ -4,8 +4,8 @@ use Rattle.std.specs.Option.{option_map}
 use Rattle.std.specs.Str.{bytes_eq}
 use Rattle.script.specs.declared.line.Protocol.{Protocol}
 use Rattle.script.specs.declared.line.Protocol.TheVariants.{T0, T1}
-use Rattle.script.specs.declared.line.Style.{Style}
-use Rattle.script.specs.declared.line.Style.TheVariants.{Whole, Bytewise}
+use Rattle.t0.specs.declared.settings.Style.{Style}
+use Rattle.t0.specs.declared.settings.Style.TheVariants.{Whole, Bytewise}
 use Rattle.script.specs.declared.line.Settings.{Settings}
 use Rattle.script.specs.Fields.{split, number}
 use Rattle.script.specs.Hex.{command_of}

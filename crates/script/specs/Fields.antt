@@ -1,5 +1,6 @@
 use Rattle.std.specs.Prelude.{ℕ, ◌+◌, ◌-◌, ◌*◌, Bool, true, false, cond, not, ◌&&◌, List, [], ◌∷◌, Some, None, Option, ◌==◌, nat_le}
 use Rattle.std.specs.Borrow.{Bor}
+use Rattle.std.specs.List.{list_all}
 
 -- What comes of a value that may be missing: nothing where it is.
 abbrev pub and_then : {A B : Type 0} → Option A → (A → Option B) → Option B
@@ -26,8 +27,7 @@ is_digit c = nat_le 48 c && nat_le c 57
 
 -- A text of digits only.
 abbrev pub all_digits : List ℕ → Bool
-all_digits [] = true
-all_digits (c ∷ cs) = is_digit c && all_digits cs
+all_digits = list_all is_digit
 
 -- There is a first byte, and it is a 0 only where it stands alone.
 abbrev pub well_led : List ℕ → Bool

@@ -1,4 +1,5 @@
-use Rattle.std.specs.Prelude.{ℕ, ◌+◌, ◌-◌, ◌*◌, ◌/◌, ◌%◌, Bool, true, cond, ◌&&◌, ◌||◌, List, [], ◌∷◌, ◌++◌, length, drop, Some, None, Option, ◌==◌, nat_le, nat_lt}
+use Rattle.std.specs.Prelude.{ℕ, ◌+◌, ◌-◌, ◌*◌, ◌/◌, ◌%◌, Bool, cond, ◌&&◌, ◌||◌, List, [], ◌∷◌, ◌++◌, length, drop, Some, None, Option, ◌==◌, nat_le, nat_lt}
+use Rattle.std.specs.List.{list_all}
 
 -- The hex digit of a number below 16: `0` to `9`, then `A` to `F`.
 abbrev pub hex_digit : ℕ → ℕ
@@ -19,8 +20,7 @@ hex (b ∷ bs) = hex_digit (b / 16) ∷ (hex_digit (b % 16) ∷ hex bs)
 
 -- A text of hex digits only.
 abbrev pub all_hex : List ℕ → Bool
-all_hex [] = true
-all_hex (c ∷ cs) = is_hex c && all_hex cs
+all_hex = list_all is_hex
 
 -- Each pair of digits as a byte; an odd digit at the end is left out.
 abbrev pub pairs : List ℕ → List ℕ
@@ -35,8 +35,3 @@ command_of text = cond (nat_le (length text) 600 && (length text % 2 == 0 && all
 -- A memory that bytes open, with its rest as it was.
 abbrev pub opened : List ℕ → List ℕ → List ℕ
 opened bytes memory = bytes ++ drop (length bytes) memory
-
--- The same where there are bytes; else the memory as it was.
-abbrev pub opened_by : Option (List ℕ) → List ℕ → List ℕ
-opened_by None memory = memory
-opened_by (Some bytes) memory = opened bytes memory

@@ -6,10 +6,8 @@ pub mod Refusals
 pub mod Orders
 pub mod Scripts
 pub mod Readings
-pub mod Readers
 pub mod Steps
 pub mod Laws
 pub mod Texts
-pub mod TextOf
 pub mod Printing
 pub mod Traces

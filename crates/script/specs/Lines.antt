@@ -1,11 +1,12 @@
-use Rattle.std.specs.Prelude.{ℕ, ◌<◌, ◌≤◌, cond, List, ◌∷◌, ◌++◌, length, Some, None, codes, decimal, Option}
+use Rattle.std.specs.Prelude.{ℕ, ◌<◌, ◌≤◌, cond, List, [], ◌∷◌, ◌++◌, length, Some, None, codes, decimal, Option}
 use Rattle.std.specs.Option.{option_map}
 use Rattle.std.specs.List.{AllByRecursion}
 use Rattle.std.specs.Str.{bytes_eq}
+use Rattle.arrayvec.specs.ArrayVec.{ArrayVec}
 use Rattle.script.specs.declared.line.Protocol.{Protocol}
 use Rattle.script.specs.declared.line.Protocol.TheVariants.{T0, T1}
-use Rattle.script.specs.declared.line.Style.{Style}
-use Rattle.script.specs.declared.line.Style.TheVariants.{Whole, Bytewise}
+use Rattle.t0.specs.declared.settings.Style.{Style}
+use Rattle.t0.specs.declared.settings.Style.TheVariants.{Whole, Bytewise}
 use Rattle.script.specs.declared.line.Settings.{Settings}
 use Rattle.script.specs.declared.line.Line as code
 use Rattle.script.specs.declared.line.Line.TheVariants.{Link, Damage, Send, Reset}
@@ -62,6 +63,17 @@ told (link s) = Link s
 told (damage k) = Damage k
 told (send u bytes) = Send u (length bytes)
 told (reset u) = Reset u
+
+-- The bytes that a line sends: only a send has any.
+abbrev pub command_in : Line → List ℕ
+command_in (link s) = []
+command_in (damage k) = []
+command_in (send u bytes) = bytes
+command_in (reset u) = []
+
+-- A line as the code holds it, and its command.
+abbrev pub apart : Line → code.Line × ArrayVec ℕ
+apart l = (told l, record { items = command_in l })
 
 -- The memory of commands after a line: the command of a send opens it, and any other line, or a bad one, leaves it as it was.
 abbrev pub held : Option Line → List ℕ → List ℕ

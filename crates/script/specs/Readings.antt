@@ -1,10 +1,9 @@
-use Rattle.std.specs.Prelude.{ℕ, Bool, true, false, cond, List, [], ◌∷◌, ◌++◌, length, Some, None, Option, ◌==◌, nat_lt}
+use Rattle.std.specs.Prelude.{ℕ, Bool, true, false, cond, List, [], ◌∷◌, ◌++◌, length, Some, None, Ok, Err, Option, Result, ◌==◌, nat_lt}
 use Rattle.script.specs.declared.reader.Stage.{Stage}
 use Rattle.script.specs.declared.reader.Stage.TheVariants.{Start}
 use Rattle.script.specs.declared.reader.Refusal.TheVariants.{BadLine}
-use Rattle.script.specs.declared.reader.Step.TheVariants.{More, Refused}
-use Rattle.script.specs.declared.reader.Step.TheVariants as step
-use Rattle.script.specs.declared.reader.Step.{Step}
+use Rattle.script.specs.declared.reader.Refusal.{Refusal}
+use Rattle.script.specs.declared.line.Line as code
 use Rattle.script.specs.Lines.{Line, link, damage, send, reset, line_of, told}
 use Rattle.script.specs.Scripts.{following, placed}
 
@@ -82,7 +81,7 @@ finished r =
     (cond (length r.part == 0) (record { after = closed r; out = more }) (then_closed (line_ended r)))
 
 -- What a step brings, as the code says it.
-abbrev pub shown : Out → Step
-shown more = More
-shown (line l) = step.Line (told l)
-shown (bad n) = Refused (BadLine n)
+abbrev pub shown : Out → Result (Option code.Line) Refusal
+shown more = Ok None
+shown (line l) = Ok (Some (told l))
+shown (bad n) = Err (BadLine n)

@@ -1,9 +1,5 @@
-use Rattle.std.specs.Prelude.{ℕ, ◌+◌, cond, List, ◌++◌, length, Some, None, Option, nat_le}
+use Rattle.std.specs.Prelude.{ℕ, cond, List, length, Some, None, Option, nat_le}
 use Rattle.script.specs.Hex.{opened}
-
--- A text with more after it, where 609 bytes have room for both; else as it was.
-abbrev pub joined : List ℕ → List ℕ → List ℕ
-joined text more = cond (nat_le (length text + length more) 609) (text ++ more) text
 
 -- The length of a text that a memory has room for.
 abbrev pub room_for : List ℕ → List ℕ → Option ℕ

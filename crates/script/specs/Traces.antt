@@ -1,4 +1,7 @@
-use Rattle.std.specs.Prelude.{ℕ, Bool, cond, List, [], ◌∷◌, ◌++◌, length, Some, None, codes, decimal, Option, nat_le}
+use Rattle.std.specs.Prelude.{ℕ, Bool, cond, List, [], ◌∷◌, ◌++◌, length, take, Some, None, Ok, Err, codes, decimal, Option, Result, nat_le}
+use Rattle.apdu.specs.Refusals.{number}
+use Rattle.apdu.specs.declared.refusal.Refusal as apdu
+use Rattle.apdu.specs.declared.status.Status as status
 use Rattle.wire.specs.declared.traced.Sender.{Sender}
 use Rattle.wire.specs.declared.traced.Sender.TheVariants.{Terminal, Card}
 use Rattle.script.specs.declared.trace.Outcome.{Outcome}
@@ -33,6 +36,18 @@ turn_line turn program outcome bytes =
 -- A turn has a line for at most 256 bytes of data.
 abbrev pub turn_text : ℕ → ℕ → Outcome → List ℕ → Option (List ℕ)
 turn_text turn program outcome bytes = cond (nat_le (length bytes) 256) (Some (turn_line turn program outcome bytes)) None
+
+-- How a turn with this result ended: with its command's status, by a reset, or with a refusal's number.
+abbrev pub outcome_of : Result (Option (ℕ × status.Status)) apdu.Refusal → Outcome
+outcome_of (Ok (Some p)) = Status p.1.sw1 p.1.sw2
+outcome_of (Ok None) = Reset
+outcome_of (Err e) = Refusal (number e)
+
+-- Its data: the answer bytes, as many as the result says, which open the answer buffer.
+abbrev pub data_of : Result (Option (ℕ × status.Status)) apdu.Refusal → List ℕ → List ℕ
+data_of (Ok (Some p)) answer = take p.0 answer
+data_of (Ok None) answer = []
+data_of (Err e) answer = []
 
 -- `x,line` and LF.
 abbrev pub bad_line : ℕ → List ℕ

@@ -1,19 +1,14 @@
+use t0::Style;
+
 // The transmission protocol of the link.
-#[derive(Clone, Copy)]
+#[derive(Clone, Copy, Debug, PartialEq, Eq)]
 pub enum Protocol {
     T0,
     T1,
 }
 
-// How a T=0 card takes the data of a command: whole, or byte by byte.
-#[derive(Clone, Copy)]
-pub enum Style {
-    Whole,
-    Bytewise,
-}
-
 // What the link line says.
-#[derive(Clone, Copy)]
+#[derive(Clone, Copy, Debug, PartialEq, Eq)]
 pub struct Settings {
     pub protocol: Protocol,
     pub ifsc: u8,
@@ -23,13 +18,19 @@ pub struct Settings {
 }
 
 // A line of a script. The command of a send lies apart, in a memory of 300 bytes, of which it takes the first `length`.
-#[derive(Clone, Copy)]
+#[derive(Clone, Copy, Debug, PartialEq, Eq)]
 pub enum Line {
     Link(Settings),
     Damage(u16),
     Send { program: u8, length: u16 },
     Reset { program: u8 },
 }
+
+// The bytes of the longest command that a line may send.
+pub(crate) const COMMAND_MAX: usize = 300;
+
+// The length of the longest line, without its LF: a send of the longest command.
+pub(crate) const LINE_MAX: usize = 609;
 
 mod field;
 mod hex;
@@ -38,4 +39,5 @@ mod print;
 mod read;
 
 pub use print::print_line;
+pub(crate) use read::parse;
 pub use read::read_line;

@@ -1,9 +1,9 @@
-ghost use Rattle.std.specs.Prelude.{◌≤◌};
-
-use crate::line::Line;
+use crate::line::{COMMAND_MAX, LINE_MAX};
+use arrayvec::ArrayVec;
+use std::marker::Model;
 
 // Where a script stands: before its link line, among its damage lines, or among its turns. The next damage must lie at `floor` or later, and there have been `count` of them.
-#[derive(Clone, Copy)]
+#[derive(Clone, Copy, Debug, PartialEq, Eq)]
 pub enum Stage {
     Start,
     Marks { floor: u32, count: u8 },
@@ -11,31 +11,27 @@ pub enum Stage {
 }
 
 // Why a script is refused: its first bad line, counted from 1.
-#[derive(Clone, Copy)]
+#[derive(Clone, Copy, Debug, PartialEq, Eq)]
 pub enum Refusal {
     BadLine { line: u64 },
 }
 
-// What a byte, or the end, brings: nothing yet, a line, or the script's refusal.
-#[derive(Clone, Copy)]
-pub enum Step {
-    More,
-    Line(Line),
-    Refused(Refusal),
-}
-
-// A reader of scripts that is fed byte by byte. The current line lies in the first `filled` bytes of `part`, the command of the last send line in the first `sent` bytes of `memory`.
+// A reader of scripts that is fed byte by byte, with the current line as far as it has come and the command of the last send line.
 #[derive(Drop)]
 pub struct Reader {
     number: u64,
     stage: Stage,
-    part: [u8; 609],
-    filled: usize,
-    memory: [u8; 300],
-    sent: usize,
+    part: ArrayVec<u8, LINE_MAX>,
+    command: ArrayVec<u8, COMMAND_MAX>,
     over: bool,
-    ghost part_fits: { filled ≤ 609 },
-    ghost sent_fits: { sent ≤ 300 },
+}
+
+impl Model for Reader {
+    ghost use Rattle.script.specs.Readings.{Reading};
+
+    ghost Value = { Reading };
+
+    ghost view = { λ r. record { number = r.number; stage = r.stage; part = r.part.items; command = r.command.items; over = r.over } };
 }
 
 mod feed;

@@ -1,6 +1,8 @@
 use crate::line::{Line, print_line, read_line};
-use crate::reader::{Reader, Refusal, Step};
-use crate::trace::{LINE_ROOM, Outcome, Sender, bad_line, character_line, turn_line};
+use crate::reader::{self, Reader};
+use crate::trace::{Outcome, TurnLabel, bad_line, character_line, result_line, turn_line};
+use apdu::{Refusal, Status};
+use wire::{Sender, Traced};
 
 // How many lines are read, and the number of the bad line, 0 for none.
 #[derive(Clone, Copy)]
@@ -9,11 +11,11 @@ struct Told {
     bad: u64,
 }
 
-fn note_step(told: &mut Told, step: Step) {
+fn note_step(told: &mut Told, step: Result<Option<Line>, reader::Refusal>) {
     match step {
-        Step::More => {}
-        Step::Line(_) => told.good = told.good.saturating_add(1),
-        Step::Refused(Refusal::BadLine { line }) => told.bad = line,
+        Ok(None) => {}
+        Ok(Some(_)) => told.good = told.good.saturating_add(1),
+        Err(reader::Refusal::BadLine { line }) => told.bad = line,
     }
 }
 
@@ -109,7 +111,7 @@ fn prints_back(line: &[u8]) -> bool {
         return false;
     };
     let length = match read {
-        Line::Send { program: _, length } => length as usize,
+        Line::Send { length, .. } => length as usize,
         _ => 0,
     };
     if length > 300 {
@@ -137,22 +139,70 @@ fn prints_lines(rt: HostRuntime) {
     }
 }
 
+fn is_turn(turn: u64, program: u8, outcome: Outcome, data: &[u8], line: &str) -> bool {
+    match turn_line(TurnLabel { turn, program }, outcome, data) {
+        Some(text) => text.as_str() == line,
+        None => false,
+    }
+}
+
 #[test]
 fn writes_traces(rt: HostRuntime) {
-    let mut out = [0u8; LINE_ROOM];
-    let n = character_line(1, Sender::Terminal, 0x2f, true, &mut out);
-    assert!(rt; is_line(&out, n, b"c,1,T,2F,!\n"));
-    let n = character_line(u64::MAX, Sender::Card, 0x0a, false, &mut out);
-    assert!(rt; is_line(&out, n, b"c,18446744073709551615,C,0A,.\n"));
-    let n = turn_line(1, 1, Outcome::Status(0x90, 0), b"", &mut out).unwrap_or(0);
-    assert!(rt; is_line(&out, n, b"j,1,1,9000,\n"));
-    let n = turn_line(2, 0, Outcome::Reset, b"", &mut out).unwrap_or(0);
-    assert!(rt; is_line(&out, n, b"j,2,0,reset,\n"));
-    let n = turn_line(3, 1, Outcome::Refusal(5), b"", &mut out).unwrap_or(0);
-    assert!(rt; is_line(&out, n, b"j,3,1,!5,\n"));
-    let n = turn_line(10, 255, Outcome::Status(0x6c, 0x1f), &[1, 0xab], &mut out).unwrap_or(0);
-    assert!(rt; is_line(&out, n, b"j,10,255,6C1F,01AB\n"));
-    assert_eq!(rt; turn_line(4, 1, Outcome::Reset, &[0; 257], &mut out), None);
-    let n = bad_line(3, &mut out);
-    assert!(rt; is_line(&out, n, b"x,3\n"));
+    assert_eq!(rt;
+        character_line(
+            1,
+            Traced {
+                sender: Sender::Terminal,
+                byte: 0x2f,
+                damaged: true
+            }
+        )
+        .as_str(),
+        "c,1,T,2F,!\n"
+    );
+    assert_eq!(rt;
+        character_line(
+            u64::MAX,
+            Traced {
+                sender: Sender::Card,
+                byte: 0x0a,
+                damaged: false
+            }
+        )
+        .as_str(),
+        "c,18446744073709551615,C,0A,.\n"
+    );
+    assert!(rt; is_turn(1, 1, Outcome::Status(0x90, 0), b"", "j,1,1,9000,\n"));
+    assert!(rt; is_turn(2, 0, Outcome::Reset, b"", "j,2,0,reset,\n"));
+    assert!(rt; is_turn(3, 1, Outcome::Refusal(5), b"", "j,3,1,!5,\n"));
+    assert!(rt;
+        is_turn(
+            10,
+            255,
+            Outcome::Status(0x6c, 0x1f),
+            &[1, 0xab],
+            "j,10,255,6C1F,01AB\n"
+        )
+    );
+    let fourth = TurnLabel {
+        turn: 4,
+        program: 1,
+    };
+    assert_eq!(rt; turn_line(fourth, Outcome::Reset, &[0; 257]), None);
+    let mut answer = [0; 256];
+    answer[0] = 0xab;
+    let done = Ok(Some((1, Status::done())));
+    assert_eq!(rt;
+        result_line(fourth, done, &answer).as_str(),
+        "j,4,1,9000,AB\n"
+    );
+    assert_eq!(rt;
+        result_line(fourth, Ok(None), &answer).as_str(),
+        "j,4,1,reset,\n"
+    );
+    assert_eq!(rt;
+        result_line(fourth, Err(Refusal::Lost), &answer).as_str(),
+        "j,4,1,!5,\n"
+    );
+    assert_eq!(rt; bad_line(3).as_str(), "x,3\n");
 }

@@ -50,25 +50,30 @@ flipped true false e = sym e
 flipped false true e = sym e
 flipped false false e = refl
 
-module _ (full : Delivered) (d f : Damage) (by : Sender) (b i : ℕ) (cs : List Traced) (before between beyond : Record Traced) (r : Option ℕ) (none : Bool)
-    (small : i < 4) (gave : r ≡ carried (d 0) b) (left : (k : ℕ) → f k ≡ d (k + 1))
-    (so_far : Grew before between cs) (noted : Grew between beyond (traced by b none ∷ [])) (is : is_some r ≡ not none)
-    (inv : full ≡ after cs (tried d by b (4 - i))) where
+-- The sending of a character after so many tries: what crossed, and what the whole comes to by the tries that are left.
+pub record SoFar (full : Delivered) (d : Damage) (by : Sender) (b i : ℕ) (before now : Record Traced) : Type 0 where
+  pub characters : List Traced
+  pub grew : Grew before now characters
+  pub rest : full ≡ after characters (tried d by b (4 - i))
+
+module _ (full : Delivered) (d f : Damage) (by : Sender) (b i : ℕ) (before between beyond : Record Traced) (r : Option ℕ) (none : Bool)
+    (so_far : SoFar full d by b i before between) (small : i < 4) (gave : r ≡ carried (d 0) b) (left : (k : ℕ) → f k ≡ d (k + 1))
+    (noted : Grew between beyond (traced by b none ∷ [])) (is : is_some r ≡ not none) where
   noted_as : (x : Bool) → none ≡ x → Grew between beyond (traced by b x ∷ [])
   noted_as x e = subst (λ (y : Bool). Grew between beyond (traced by b y ∷ [])) e noted
 
-  pub goes_on : is_some r ≡ false → (ds : List Traced) × (Grew before beyond ds × (full ≡ after ds (tried f by b (4 - (i + 1)))))
-  goes_on s = (
-    cs ++ (traced by b true ∷ []),
-    (
-      grew_then so_far (noted_as true (flipped none true (sym is ∙ s))),
-      inv ∙ ap (after cs) (tried_miss d f by b i small (gave_none (d 0) b r gave s) left) ∙ after_after cs (traced by b true ∷ []) (tried f by b (4 - (i + 1))),
-    ),
-  )
+  -- It was damaged, and is tried again.
+  pub goes_on : is_some r ≡ false → SoFar full f by b (i + 1) before beyond
+  goes_on s = record {
+    characters = so_far.characters ++ (traced by b true ∷ []);
+    grew = grew_then so_far.grew (noted_as true (flipped none true (sym is ∙ s)));
+    rest = so_far.rest ∙ ap (after so_far.characters) (tried_miss d f by b i small (gave_none (d 0) b r gave s) left) ∙ after_after so_far.characters (traced by b true ∷ []) (tried f by b (4 - (i + 1)));
+  }
 
+  -- It arrived.
   pub arrives : is_some r ≡ true → Carries b full r f before beyond
   arrives s =
       let whole = gave_some (d 0) b r gave s in
-      let e : full ≡ record { arrived = true; characters = cs ++ (traced by b false ∷ []); coming = later d } = inv ∙ ap (after cs) (tried_hit d by b i small whole) in
+      let e : full ≡ record { arrived = true; characters = so_far.characters ++ (traced by b false ∷ []); coming = later d } = so_far.rest ∙ ap (after so_far.characters) (tried_hit d by b i small whole) in
       subst (λ (t : Delivered). Carries b t r f before beyond) (sym e)
-      (record { result = whole_some (d 0) b r gave whole; line = fun_ext left; trace = grew_then so_far (noted_as false (flipped none false (sym is ∙ s))) })
+      (record { result = whole_some (d 0) b r gave whole; line = fun_ext left; trace = grew_then so_far.grew (noted_as false (flipped none false (sym is ∙ s))) })

@@ -1,6 +1,6 @@
-use Rattle.std.specs.Prelude.{ℕ, ◌+◌, Bool, true, false, cond, ◌||◌, List, [], ◌∷◌, ◌++◌, length, take, drop, replicate, nat_le, nat_lt, slice_index}
-use Rattle.apdu.specs.Applications.{App, Outcome, Reply}
-use Rattle.apdu.specs.declared.header.Header.{Header}
+use Rattle.std.specs.Prelude.{◌≡◌, ℕ, ◌+◌, ◌-◌, ◌==◌, Option, Some, None, Bool, true, false, cond, ◌||◌, List, [], ◌∷◌, ◌++◌, length, take, drop, replicate, nat_le, nat_lt, slice_index}
+use Rattle.apdu.specs.Applications.{App, Reply}
+use Rattle.apdu.specs.declared.status.Status.{Status}
 use Rattle.t0.specs.declared.settings.Settings.{Settings}
 use Rattle.t0.specs.declared.settings.Style.{Style}
 use Rattle.t0.specs.declared.settings.Style.TheVariants.{Whole, Bytewise}
@@ -12,8 +12,6 @@ use Rattle.t0.specs.declared.card.Kept.TheVariants as kept
 use Rattle.t0.specs.declared.card.Out.{Out}
 use Rattle.t0.specs.declared.card.Receiving.{Receiving}
 use Rattle.t0.specs.declared.card.Receiving.TheVariants as receiving
-use Rattle.t0.specs.declared.card.Reply as reply
-use Rattle.t0.specs.declared.card.Reply.TheVariants.{Alone, With}
 use Rattle.t0.specs.declared.card.Then.{Then}
 use Rattle.t0.specs.declared.card.Then.TheVariants.{Nothing, Ask, Announce, Give, Close, End}
 use Rattle.t0.specs.Cards as cards
@@ -61,10 +59,9 @@ has_some out = nat_lt 0 out.waits || is_some out.then
 abbrev pub answer_of : List ℕ → Answer → Reply
 answer_of memory a = record { answer = take (a.last + 1) memory; status = a.status }
 
--- What the application replied: a status alone, or an answer that lies in memory.
-abbrev pub reply_of : List ℕ → reply.Reply → Reply
-reply_of memory (Alone status) = record { answer = []; status = status }
-reply_of memory (With a) = answer_of memory a
+-- The answer of an application that wrote so many bytes: none for no byte.
+abbrev pub written : ℕ → Status → Option Answer
+written n status = cond (n == 0) None (Some (record { last = n - 1; status = status }))
 
 -- What is held, where answers lie in memory.
 abbrev pub held_of : List ℕ → Kept → Held
@@ -90,9 +87,10 @@ meant app c = record {
   pending = pending_of c.settings c.answer c.out;
 }
 
--- The application runs on a header and the first bytes of the data.
-abbrev pub runs_on : {V : Type 0} (app : App V) → Card V → Header → ℕ → Outcome app.State
-runs_on app c h count = app.runs (app.state c.app) h.cla h.ins h.p1 h.p2 (take count c.body)
+-- The card becomes what this step makes of it, under its settings, which stay.
+pub record Becomes {V : Type 0} (app : App V) (old new : Card V) (step : Settings → cards.Card app.State → cards.Card app.State) : Type 0 where
+  pub card : meant app new ≡ step old.settings (meant app old)
+  pub settings : new.settings ≡ old.settings
 
 -- So many bytes are wanted of an answer: with as many or more, that many and the status, and nothing is held; else 6C and the
 -- count, and this is held.

@@ -1,4 +1,4 @@
-use Rattle.std.specs.Prelude.{ℕ, zero, suc, true, false, cond, List, [], ◌∷◌, ◌++◌, ◌==◌, slice_index, slice_set}
+use Rattle.std.specs.Prelude.{ℕ, zero, suc, cond, List, [], ◌∷◌, ◌++◌, ◌==◌, slice_index, slice_set}
 use Rattle.apdu.specs.Applications.{App}
 use Rattle.apdu.specs.Statuses as statuses
 use Rattle.apdu.specs.declared.status.Status.{Status}
@@ -41,9 +41,11 @@ pub record Talked (S : Type 0) : Type 0 where
   pub coming : Damage
   pub characters : List Traced
 
+-- The conversation ends so, and no more crosses.
 abbrev pub ended : {S : Type 0} → End → Joined S → Talked S
 ended e j = record { end = e; card = j.card; staged = j.staged; coming = j.coming; characters = [] }
 
+-- These characters crossed before it.
 abbrev pub before : {S : Type 0} → List Traced → Talked S → Talked S
 before cs t = record { end = t.end; card = t.card; staged = t.staged; coming = t.coming; characters = cs ++ t.characters }
 
@@ -96,6 +98,7 @@ module _ {V : Type 0} (app : App V) (s : Settings) (body : List ℕ) where
             (off (record { end = lost; card = spoken j.card; staged = j.staged; coming = t.coming; characters = [] }));
       }
 
+  -- The terminal speaks where it wants to send, with a byte of its own or one of the data; else the card speaks.
   abbrev pub by_want : Joined app.State → Want → Spoken app.State
   by_want j (Send b) = terminal_speaks j b
   by_want j (SendData i) = terminal_speaks j (slice_index body i)

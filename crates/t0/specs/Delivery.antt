@@ -10,6 +10,7 @@ pub record Delivered : Type 0 where
   pub characters : List Traced
   pub coming : Damage
 
+-- A character on the line, and whether it was damaged.
 abbrev pub traced : Sender → ℕ → Bool → Traced
 traced sender b x = record { sender = sender; byte = b; damaged = x }
 

@@ -1,4 +1,4 @@
-use Rattle.std.specs.Prelude.{ℕ, min, Bool, true, false, cond, List, [], ◌∷◌, ◌++◌, length, take, ◌==◌, nat_le}
+use Rattle.std.specs.Prelude.{ℕ, min, cond, List, [], ◌∷◌, ◌++◌, length, take, ◌==◌, nat_le}
 use Rattle.apdu.specs.Applications.{Reply}
 use Rattle.apdu.specs.Commands.{Command, inward}
 use Rattle.wire.specs.declared.traced.Sender.{Sender}

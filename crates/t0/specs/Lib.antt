@@ -8,4 +8,5 @@ pub mod CardValues
 pub mod Terminals
 pub mod Starts
 pub mod Conversations
+pub mod Wired
 pub mod Talks

@@ -26,6 +26,7 @@ sends c =
     cond (inward c.ins) (heading_for (header_of c) (as_p3 (length c.body)) Inward c.ne (length c.body))
     (heading_for (header_of c) (as_p3 c.ne) Outward c.ne c.ne)
 
+-- The terminal in this phase.
 abbrev pub at_phase : Waiting → Phase → Waiting
 at_phase w p = record { header = w.header; p3 = w.p3; kind = w.kind; ne = w.ne; total = w.total; due = w.due; phase = p }
 
@@ -101,16 +102,19 @@ is_part w Outward = nat_lt 0 w.due && nat_lt w.due w.total
 is_part w Repeated = nat_lt 0 w.due && nat_lt w.due w.total
 is_part w Response = nat_lt 0 w.due && nat_lt w.due w.total
 
+-- How many bytes of the answer moved: none for an inward command.
 abbrev pub count_moved : Waiting → Kind → ℕ
 count_moved w Inward = 0
 count_moved w Outward = place w
 count_moved w Repeated = place w
 count_moved w Response = place w
 
+-- A lawful status ends the command; any other breaks the protocol.
 abbrev pub done_with : ℕ → Option Status → Step
 done_with count None = Broken
 done_with count (Some status) = Done (record {}) count status
 
+-- A status that is neither 61 nor 6C: it ends the command with the count of bytes that moved.
 abbrev pub ends : Waiting → ℕ → ℕ → Step
 ends w sw1 sw2 = cond (is_part w w.kind) Broken (done_with (count_moved w w.kind) (status_of sw1 sw2))
 

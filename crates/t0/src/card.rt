@@ -4,7 +4,7 @@ use crate::settings::Settings;
 use apdu::{Header, Status};
 
 // Data on their way in: the header of their command, Lc, and how many bytes have come, which are not all yet.
-#[derive(Clone, Copy)]
+#[derive(Clone, Copy, Debug, PartialEq, Eq)]
 struct Taking {
     header: Header,
     lc: u8,
@@ -13,7 +13,7 @@ struct Taking {
 }
 
 // What the card is receiving: a header, of which none or some characters have come, or data.
-#[derive(Clone, Copy)]
+#[derive(Clone, Copy, Debug, PartialEq, Eq)]
 enum Receiving {
     Nothing,
     Cla(u8),
@@ -24,30 +24,23 @@ enum Receiving {
 }
 
 // An answer that lies in the card's memory: the place of its last byte, so that it has 1 to 256 bytes, and its status.
-#[derive(Clone, Copy)]
+#[derive(Clone, Copy, Debug, PartialEq, Eq)]
 struct Answer {
     last: u8,
     status: Status,
 }
 
 // What the card holds: nothing, an answer after 61, or an answer after 6C for this header.
-#[derive(Clone, Copy)]
+#[derive(Clone, Copy, Debug, PartialEq, Eq)]
 enum Kept {
     Nothing,
     By61(Answer),
     By6C(Header, Answer),
 }
 
-// What the application replied: a status alone, or an answer.
-#[derive(Clone, Copy)]
-enum Reply {
-    Alone(Status),
-    With(Answer),
-}
-
 // Answer bytes on their way out: the INS that moves them, the places of the next one and of the last one, and the status that
 // follows them.
-#[derive(Clone, Copy)]
+#[derive(Clone, Copy, Debug, PartialEq, Eq)]
 struct Giving {
     ins: u8,
     at: u8,
@@ -57,7 +50,7 @@ struct Giving {
 
 // What the card sends after the bytes 60: nothing; the procedure byte that asks for data of this INS; the procedure byte of
 // answer bytes, and these; answer bytes; SW1 and SW2; SW2.
-#[derive(Clone, Copy)]
+#[derive(Clone, Copy, Debug, PartialEq, Eq)]
 enum Then {
     Nothing,
     Ask(u8),
@@ -68,7 +61,7 @@ enum Then {
 }
 
 // What the card will still send: so many bytes 60, and then more.
-#[derive(Clone, Copy)]
+#[derive(Clone, Copy, Debug, PartialEq, Eq)]
 struct Out {
     waits: u8,
     then: Then,
@@ -81,8 +74,8 @@ pub struct Card<A> {
     app: A,
     settings: Settings,
     receiving: Receiving,
-    body: [u8; 255],
-    answer: [u8; 256],
+    body: [u8; 255], // fixed memory: a card has no heap
+    answer: [u8; 256], // fixed memory, which the application writes in place
     kept: Kept,
     out: Out,
     ghost room: { length body ≡ 255 },

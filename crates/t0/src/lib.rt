@@ -4,6 +4,7 @@
 
 mod card;
 mod carry;
+mod p3;
 mod settings;
 mod talk;
 mod terminal;
@@ -11,7 +12,5 @@ mod terminal;
 pub use apdu::Header;
 pub use card::Card;
 pub use settings::{Settings, Style};
-pub use talk::{Settled, converse};
-pub use terminal::{
-    Begun, Discarded, Fetched, Holding, Kind, Phase, Ready, Step, Token, Waiting, Want,
-};
+pub use talk::{Failure, WiredCard};
+pub use terminal::{Holding, Kind, Phase, Ready, Step, Token, Waiting, Want};

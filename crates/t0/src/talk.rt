@@ -1,29 +1,32 @@
+use crate::card::Card;
 use crate::terminal::{Holding, Token, Waiting};
 use apdu::Status;
+use std::ops::ControlFlow;
 
-// How a conversation ends: done, with a count of answer bytes and a status; with an answer held; with the protocol broken; or
-// lost on the line.
-pub(crate) enum Ending {
-    Done(usize, Status),
-    Held(Holding, Token),
+// A card at the end of a line.
+#[derive(Drop)]
+pub struct WiredCard<A, L> {
+    card: Card<A>,
+    line: L,
+}
+
+// Why a command is not done: the protocol is broken, or the conversation is lost on the line.
+#[derive(Clone, Copy, Debug, PartialEq, Eq)]
+pub enum Failure {
     Broken,
     Lost,
+}
+
+// How a conversation ends: done, with a count of answer bytes and a status; or with an answer held.
+pub(crate) enum Ended {
+    Done(usize, Status),
+    Held(Holding, Token),
 }
 
 // What one character comes to: the conversation goes on, or it ends.
-pub(crate) enum Spoke {
-    On(Waiting),
-    Off(Ending),
-}
+pub(crate) type Spoke = ControlFlow<Ended, Waiting>;
 
-// How a command is settled: done, with a count of answer bytes and a status; with the protocol broken; or lost on the line.
-pub enum Settled {
-    Done(usize, Status),
-    Broken,
-    Lost,
-}
-
+mod failing;
 mod speak;
 mod whole;
-
-pub use whole::converse;
+mod wiring;

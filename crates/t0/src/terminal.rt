@@ -1,8 +1,8 @@
-use apdu::{Header, Refusal, Status};
+use apdu::{Header, Status};
 
 // What a header that was sent asks for: data inward; an answer outward; the answer of an outward command whose header is
 // repeated after 6C; the answer that 61 left held.
-#[derive(Clone, Copy)]
+#[derive(Clone, Copy, Debug, PartialEq, Eq)]
 pub enum Kind {
     Inward,
     Outward,
@@ -12,7 +12,7 @@ pub enum Kind {
 
 // Where a command stands: it sends its header, of which so many characters are sent; it awaits a procedure byte; it sends so
 // many bytes of data; it awaits so many bytes of the answer; it awaits SW2 after this SW1.
-#[derive(Clone, Copy)]
+#[derive(Clone, Copy, Debug, PartialEq, Eq)]
 pub enum Phase {
     Heading(u8),
     Procedure,
@@ -51,7 +51,7 @@ pub struct Token {
 }
 
 // What the terminal wants: to send this character; to send this byte of the data; to receive a character.
-#[derive(Clone, Copy)]
+#[derive(Clone, Copy, Debug, PartialEq, Eq)]
 pub enum Want {
     Send(u8),
     SendData(usize),
@@ -66,24 +66,6 @@ pub enum Step {
     Done(Ready, usize, Status),
     Held(Holding, Token),
     Broken,
-}
-
-// What a command comes to: it is being sent; or it is refused, and the terminal is ready as before.
-pub enum Begun {
-    Sending(Waiting),
-    Refused(Ready, Refusal),
-}
-
-// What a fetch comes to: the held answer is asked for; or none of it is wanted, and nothing was spent.
-pub enum Fetched {
-    Asking(Waiting),
-    Unwanted(Holding, Token),
-}
-
-// What a discard comes to: the command is done, with a status; or some of the answer is wanted, and nothing was spent.
-pub enum Discarded {
-    Done(Ready, Status),
-    Wanted(Holding, Token),
 }
 
 mod begin;

@@ -16,5 +16,5 @@ pub mod TalkLengths
 pub mod TalkLaw
 pub mod Rests
 pub mod LinkSending
-pub mod LinkTurn
 pub mod LinkLaw
+pub mod LinkTurn

@@ -1,4 +1,4 @@
-use Rattle.std.proofs.Common.{◌≡◌, ℕ, ◌-◌, Bool, true, false, List, [], ◌++◌, length, take, drop, Ok, Err, Option, sym, refl, ap, ◌∙◌, subst, take_at}
+use Rattle.std.proofs.Common.{◌≡◌, ℕ, ◌-◌, Bool, true, false, List, [], ◌++◌, ◌||◌, length, take, drop, Ok, Err, Option, sym, refl, ap, ◌∙◌, subst, take_at}
 use native.Mathlib.Nat.{sub-zero}
 use Rattle.apdu.specs.Applications.{App, Outcome, does, opened}
 use Rattle.apdu.specs.Commands.{Command}
@@ -16,11 +16,12 @@ use Rattle.link.specs.Meaning.{Asked, command, Linked, carried, before, after, s
 use Rattle.link.specs.Results.{LinkSends, LinkResets}
 use Rattle.link.specs.Turns.{Did, gives, denied}
 use Rattle.t0.specs.declared.settings.Settings.{Settings}
-use Rattle.t0.specs.CardValues.{meant}
-use Rattle.t0.specs.Cards as cards
-use Rattle.t0.specs.Cards.{card_reset}
+use Rattle.t0.specs.Cards.{nothing}
 use Rattle.t0.specs.Delivery.{Delivered, deliver}
-use Rattle.t0.specs.declared.card.Card.{Card}
+use Rattle.t0.specs.Wired.{Wired, wired_of, after_reset}
+use Rattle.t0link.specs.Resting.{resting}
+use Rattle.t0link.proofs.Rests.{so_rests}
+use Rattle.t0.specs.declared.talk.WiredCard.{WiredCard}
 use Rattle.t0.specs.Dialogues.{Dialogue, dialogue, whole}
 use Rattle.t0link.specs.Links.{said_by, fate_of, linked_by}
 
@@ -87,16 +88,18 @@ module _ {V : Type 0} (app : App V) (s : Settings) (d : Damage) (x : app.State) 
         by_opening false then else = record { turn = record { after = ap (λ (k : Damage). linked_by s k z true) ef ∙ ap (λ (k : app.State). linked_by s all.coming k true) (else refl); wrote = el; gave = refl; count = refl }; trace = g }
 
 -- A reset of a link that is not lost.
-pub reset_so : {V : Type 0} (app : App V) (s s' : Settings) (d : Damage) (x z : app.State) (b : Bool) (t : Record Traced)
-    → b ≡ false → s' ≡ s → z ≡ app.resets x → LinkResets (was_reset app (linked_by s d x b) []) (linked_by s' d z b) (Ok tt) t t
-unfolding deliver
-reset_so app s s' d x z b t eb es ez =
-    subst (λ (k : Bool). LinkResets (was_reset app (linked_by s d x k) []) (linked_by s' d z k) (Ok tt) t t) (sym eb)
-    (record { turn = record { after = ap (λ (k : Settings). linked_by k d z false) es ∙ ap (λ (k : app.State). linked_by s d k false) ez; gave = refl }; trace = grew_none t })
+module _ {V M : Type 0} (app : App V) (damage : M → Damage) (w next : WiredCard V M) (b : Bool) (eb : b ≡ false)
+    (e : wired_of app damage next ≡ after_reset app (wired_of app damage w)) where
+  pub reset_so : (t : Record Traced) → LinkResets (was_reset app (linked_by w.card.settings (damage w.line) (app.state w.card.app) b) []) (linked_by next.card.settings (damage next.line) (app.state next.card.app) b) (Ok tt) t t
+  unfolding deliver
+  reset_so t =
+      subst (λ (k : Bool). LinkResets (was_reset app (linked_by w.card.settings (damage w.line) (app.state w.card.app) k) []) (linked_by next.card.settings (damage next.line) (app.state next.card.app) k) (Ok tt) t t) (sym eb)
+      (record { turn = record { after = ap (λ (k : Wired app.State). linked_by k.settings k.coming k.card.state false) e; gave = refl }; trace = grew_none t })
 
--- A card that was reset has the application's state after a reset.
-pub reset_state : {V : Type 0} (app : App V) (c d : Card V) → meant app d ≡ card_reset app (meant app c) → app.state d.app ≡ app.resets (app.state c.app)
-reset_state app c d e = ap (λ (k : cards.Card app.State). k.state) e
+  pub reset_rests : (b || resting next.card) ≡ true
+  reset_rests =
+      ap (λ (k : Bool). k || resting next.card) eb
+      ∙ so_rests app next.card (app.resets (app.state w.card.app)) nothing (ap (λ (k : Wired app.State). k.card) e) tt
 
 -- The answer bytes that opened the staging, put before the rest of the answer buffer.
 pub staged_out : (part zeros staged got whole : List ℕ) (n : ℕ) → n ≡ length part → staged ≡ opened part zeros → got ≡ take (n - 0) staged → got ++ drop (n - 0) whole ≡ opened part whole

@@ -1,4 +1,4 @@
-use Rattle.std.proofs.Common.{◌≡◌, ℕ, true, false, List, [], ◌∷◌, ◌++◌, get_or, set, Some, None, Option}
+use Rattle.std.proofs.Common.{◌≡◌, ℕ, List, [], ◌∷◌, ◌++◌, get_or, set, Some, None, Option}
 use Rattle.apdu.specs.Applications.{App}
 use Rattle.wire.specs.Lines.{Damage}
 use Rattle.t0.specs.declared.settings.Settings.{Settings}

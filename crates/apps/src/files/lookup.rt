@@ -1,28 +1,28 @@
 ghost use Rattle.std.specs.Prelude.{◌≡◌};
-ghost use Rattle.apps.specs.FilePlaces.{place, place_named};
-ghost use Rattle.apps.specs.FileValues.{shelf};
+ghost use Rattle.apps.specs.FilePlaces.{place, current_at};
 
 use crate::files::Files;
+use apdu::{Header, Status};
 
 impl Files {
     // The place of the file with this id.
     pub(super) fn find(&self, id: u16) -> Option<usize>
-        ensures { result ≡ place id (shelf self.now).files }
+        ensures { result ≡ place id self.now.files }
     {
-        let slots = &self.slots[0..self.count];
-        for (i, slot) in slots.iter().enumerate() {
-            if slot.id() == id {
-                return Some(i);
-            }
-        }
-        None
+        self.slots.iter().position(|slot| slot.id() == id)
     }
 
-    // The place of the current file.
-    pub(super) fn find_current(&self) -> Option<usize>
-        ensures { result ≡ place_named self.now.current (shelf self.now).files }
+    // The place of the current file, and the offset that P1 and P2 spell.
+    pub(super) fn current_at(&self, header: Header) -> Result<(usize, usize), Status>
+        ensures { result ≡ current_at self.now header.p1 header.p2 }
     {
-        let id = self.current?;
-        self.find(id)
+        if header.p1 >= 0x80 {
+            return Err(Status::wrong_parameters());
+        }
+        let place = self
+            .current
+            .and_then(|id| self.find(id))
+            .ok_or(Status::no_current_file())?;
+        Ok((place, u16::from_be_bytes([header.p1, header.p2]) as usize))
     }
 }

@@ -1,13 +1,22 @@
-ghost use Rattle.std.specs.Prelude.{◌≡◌, ◌-◌, ◌≤◌, drop, replicate};
+use arrayvec::ArrayVec;
+use std::marker::Model;
 
-// A place for one file: its id, and its bytes, which are the first `size` of the array; the others are 0.
-#[derive(Clone, Copy)]
+// A place for one file: its id, and its bytes, at most 256.
+#[derive(Default, Drop)]
 pub(super) struct Slot {
     id: u16,
-    size: usize,
-    bytes: [u8; 256],
-    ghost small: { size ≤ 256 },
-    ghost clear: { drop size bytes ≡ replicate (256 - size) 0 },
+    bytes: ArrayVec<u8, 256>,
+}
+
+impl Model for Slot {
+    ghost use Rattle.std.specs.Prelude.{◌≤◌, length};
+    ghost use Rattle.apps.specs.Files.{File};
+
+    ghost Value = { File };
+
+    ghost view = { λ s. record { id = s.id; bytes = s.bytes.items } };
+
+    ghost invariant = { λ s. length s.bytes.items ≤ 256 };
 }
 
 mod content;

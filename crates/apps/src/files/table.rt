@@ -3,31 +3,25 @@ ghost use Rattle.apps.specs.FileTables.{has_id, distinct, shelf_of};
 ghost use Rattle.apps.specs.FileValues.{shelf_if};
 
 use crate::files::slot::Slot;
-use crate::files::{Entry, Files};
+use crate::files::{Entry, Files, PLACES};
 use apdu::SettingRefusal;
+use arrayvec::ArrayVec;
 
 // Whether some entry has this id.
 fn has_id(table: &[Entry], id: u16) -> bool
     ensures { result ≡ has_id id table.now }
 {
-    for entry in table {
-        if entry.id == id {
-            return true;
-        }
-    }
-    false
+    table.iter().any(|entry| entry.id == id)
 }
 
 // Whether no two entries have one id.
 fn are_distinct(table: &[Entry]) -> bool
     ensures { result ≡ distinct table.now }
 {
-    for (i, entry) in table.iter().enumerate() {
-        if has_id(&table[i + 1..], entry.id) {
-            return false;
-        }
+    match table {
+        [] => true,
+        [entry, rest @ ..] => !has_id(rest, entry.id) && are_distinct(rest),
     }
-    true
 }
 
 impl Files {
@@ -35,19 +29,15 @@ impl Files {
     pub fn new(table: &[Entry], contents: &[u8]) -> Result<Files, SettingRefusal>
         ensures { shelf_if result ≡ shelf_of table.now contents.now }
     {
-        let count = table.len();
-        if count == 0 || count > 8 || !are_distinct(table) {
+        if table.is_empty() || table.len() > PLACES || !are_distinct(table) {
             return Err(SettingRefusal::OutsideLimits);
         }
-        let mut slots = [Slot::empty(); 8];
-        for (i, entry) in table.iter().enumerate() {
-            let Some(slot) = Slot::load(entry, contents) else {
-                return Err(SettingRefusal::OutsideLimits);
-            };
-            slots[i] = slot;
+        let mut slots = ArrayVec::new();
+        for entry in table {
+            let slot = Slot::load(entry, contents).ok_or(SettingRefusal::OutsideLimits)?;
+            slots.push(slot);
         }
         Ok(Files {
-            count,
             slots,
             current: None,
         })

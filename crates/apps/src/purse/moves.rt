@@ -1,17 +1,18 @@
-ghost use Rattle.std.specs.Prelude.{◌≡◌, ◌≤◌, [], ◌∷◌, ◌++◌, drop, pos, ◌+ℤ◌};
-ghost use Rattle.apps.specs.Purse.{balance, limit, within, move_by, JoiningKeeps, CreditAdds, DebitTakes, RefusalKeeps};
-ghost use Rattle.apps.specs.PurseState.{held};
+ghost use Rattle.std.specs.Prelude.{◌≡◌, ◌≤◌, [], pos, ◌+ℤ◌};
+ghost use Rattle.apps.specs.Purse.{four_bytes, balance, limit, within, move_by, JoiningKeeps, CreditAdds, DebitTakes, RefusalKeeps};
+ghost use Rattle.apps.specs.Replies.{gives};
 
-use crate::purse::{LIMIT, PLACES, Purse};
+use crate::purse::{LIMIT, Purse};
+use apdu::Status;
+use arrayvec::ArrayVec;
 
 impl Purse {
     // A purse with no movements.
     pub fn new() -> Purse
-        ensures { held result ≡ [] }
+        ensures { result ≡ [] }
     {
         Purse {
-            count: 0,
-            movements: [0; PLACES],
+            movements: ArrayVec::new(),
         }
     }
 
@@ -19,54 +20,37 @@ impl Purse {
     // joining movements keeps the balance, an accepted credit adds its amount to it, an accepted debit takes its amount off,
     // and a refused command changes nothing.
     pub fn balance(&self) -> u32
-        ensures value { pos result ≡ balance (held self.now) }
+        ensures value { pos result ≡ balance self.now }
         ensures limits { result ≤ limit }
         ensures joining { JoiningKeeps }
         ensures credit { CreditAdds }
         ensures debit { DebitTakes }
         ensures refusal { RefusalKeeps }
     {
-        let mut sum = 0i32;
-        let held = &self.movements[0..self.count];
-        for movement in held {
-            sum += *movement;
-        }
+        let sum: i32 = self.movements.iter().sum();
         sum as u32
     }
 
     // Whether the balance stays in its limits under a movement.
     fn allows(&self, movement: i32) -> bool
-        ensures { result ≡ within (balance (held self.now) +ℤ movement) }
+        ensures { result ≡ within (balance self.now +ℤ movement) }
     {
         let balance = i64::from(self.balance()) + i64::from(movement);
-        balance >= 0 && balance <= i64::from(LIMIT)
+        (0..=i64::from(LIMIT)).contains(&balance)
     }
 
-    // Records a movement. False, and nothing changes, where the balance would leave its limits.
-    pub(super) fn record(&mut self, movement: i32) -> bool
-        ensures state { held self.new ≡ (move_by (held self.old) movement).state }
-        ensures allowed { result ≡ within (balance (held self.old) +ℤ movement) }
+    // Records a movement and answers the new balance, if that lies in its limits.
+    pub(super) fn record(&mut self, movement: i32) -> Result<u32, Status>
+        ensures { gives self.new four_bytes result ≡ move_by self.old movement }
     {
         if !self.allows(movement) {
-            return false;
+            return Err(Status::conditions_not_met());
         }
-        if self.count < PLACES {
-            self.movements[self.count] = movement;
-            self.count += 1;
-        } else {
-            let oldest = self.movements[0] + self.movements[1];
-            self.movements = slid(self.movements, oldest, movement);
+        if self.movements.is_full() {
+            let oldest = self.movements.remove(0);
+            self.movements[0] += oldest;
         }
-        true
+        self.movements.push(movement);
+        Ok(self.balance())
     }
-}
-
-// The movements of a full purse with `oldest` in the place of the two oldest, and `newest` after all.
-fn slid(movements: [i32; PLACES], oldest: i32, newest: i32) -> [i32; PLACES]
-    ensures { result ≡ oldest ∷ (drop 2 movements ++ newest ∷ []) }
-{
-    let mut slid = [oldest; PLACES];
-    slid[1..PLACES - 1].copy_from_slice(&movements[2..PLACES]);
-    slid[PLACES - 1] = newest;
-    slid
 }

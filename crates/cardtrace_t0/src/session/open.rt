@@ -1,25 +1,18 @@
-ghost use Rattle.std.specs.Prelude.{◌≡◌};
+ghost use Rattle.std.specs.Prelude.{◌≡◌, if◌then◌else◌, Some, None};
+ghost use Rattle.std.specs.Option.{option_map};
 ghost use Rattle.apps.specs.FileValues.{files_app};
-ghost use Rattle.cardtrace_t0.specs.Cards.{first_shelf, settings_said, style_said};
-ghost use Rattle.cardtrace_t0.specs.Plays.{opening, linked_up, marked, opened};
+ghost use Rattle.wire.specs.MarkedLines.{are_marks};
+ghost use Rattle.cardtrace_t0.specs.Cards.{first_shelf, link_said};
+ghost use Rattle.cardtrace_t0.specs.Plays.{over, linked_up, marked, opened};
 ghost use Rattle.cardtrace_t0.specs.Sessions.{stand_of};
 
-use crate::session::{Opening, Stand};
+use crate::session::Stand;
 use apps::{Entry, Files};
+use arrayvec::ArrayVec;
 use link::DirectLink;
-use script::line::{Protocol, Settings, Style};
+use script::line::{Protocol, Settings};
 use t0link::T0Link;
 use wire::MarkedLine;
-
-// The card's style as the link line says it.
-fn style(style: Style) -> t0::Style
-    ensures { result ≡ style_said style }
-{
-    match style {
-        Style::Whole => t0::Style::Whole,
-        Style::Bytewise => t0::Style::Bytewise,
-    }
-}
 
 // The one card of the program: file 2F01, which holds 41 42.
 fn first_card() -> Files
@@ -30,85 +23,56 @@ fn first_card() -> Files
         start: 0,
         length: 2,
     }];
-    match Files::new(&table, b"AB") {
-        Ok(files) => files,
-        Err(_) => unreachable(),
-    }
+    Files::new(&table, b"AB").unwrap()
 }
 
-impl Opening {
-    // One position more, up to 64.
-    fn mark(self, position: u16) -> Opening
-        ensures { stand_of (Stand.Opening result) ≡ marked (stand_of (Stand.Opening self)) position }
-    {
-        let Opening {
-            settings,
-            mut marks,
-            count,
-        } = self;
-        if count >= 64 {
-            return self;
+// The link that a link line and the positions of the damage lines say, with the card as it is at first; none where the positions
+// pass the limits of a line.
+fn link_said(settings: Settings, marks: &[u16]) -> Option<Stand>
+    ensures { option_map stand_of result ≡ (if are_marks marks.now then Some (over (link_said settings marks.now)) else None) }
+{
+    let line = MarkedLine::new(marks).ok()?;
+    match settings.protocol {
+        Protocol::T0 => {
+            let settings = t0::Settings::new(settings.waits.min(15), settings.style).unwrap();
+            Some(Stand::OverT0(T0Link::new(settings, first_card(), line)))
         }
-        marks[count] = position;
-        Opening {
-            settings,
-            marks,
-            count: count + 1,
-        }
-    }
-
-    // The link that was said, with the card as it is at first; none where the positions pass the limits of a line.
-    fn open(self) -> Stand
-        ensures { stand_of result ≡ opened (stand_of (Stand.Opening self)) }
-    {
-        let Ok(line) = MarkedLine::new(&self.marks[0..self.count]) else {
-            return Stand::Opening(self);
-        };
-        match self.settings.protocol {
-            Protocol::T0 => match t0::Settings::new(
-                self.settings.waits.min(15),
-                style(self.settings.style),
-            ) {
-                Ok(settings) => Stand::OverT0(T0Link::new(settings, first_card(), line)),
-                Err(_) => unreachable(),
-            },
-            Protocol::T1 => Stand::Direct(DirectLink::new(first_card())),
-        }
+        Protocol::T1 => Some(Stand::Direct(DirectLink::new(first_card()))),
     }
 }
 
 impl Stand {
     // The link line is read.
-    pub(crate) fn link(self, settings: Settings) -> Stand
-        ensures { stand_of result ≡ linked_up (stand_of self) settings }
+    pub(crate) fn link(&mut self, settings: Settings)
+        ensures { stand_of self.new ≡ linked_up (stand_of self.old) settings }
     {
-        match self {
-            Stand::Unlinked => Stand::Opening(Opening {
+        if let Stand::Unlinked = self {
+            *self = Stand::Opening {
                 settings,
-                marks: [0; 64],
-                count: 0,
-            }),
-            other => other,
+                marks: ArrayVec::new(),
+            };
         }
     }
 
-    // A damage line is read.
-    pub(crate) fn mark(self, position: u16) -> Stand
-        ensures { stand_of result ≡ marked (stand_of self) position }
+    // A damage line is read: one position more, up to 64.
+    pub(crate) fn mark(&mut self, position: u16)
+        ensures { stand_of self.new ≡ marked (stand_of self.old) position }
     {
-        match self {
-            Stand::Opening(opening) => Stand::Opening(opening.mark(position)),
-            other => other,
+        if let Stand::Opening { marks, .. } = self
+            && !marks.is_full()
+        {
+            marks.push(position);
         }
     }
 
     // The first turn makes the link.
-    pub(crate) fn open(self) -> Stand
-        ensures { stand_of result ≡ opened (stand_of self) }
+    pub(crate) fn open(&mut self)
+        ensures { stand_of self.new ≡ opened (stand_of self.old) }
     {
-        match self {
-            Stand::Opening(opening) => opening.open(),
-            other => other,
+        if let Stand::Opening { settings, marks } = self
+            && let Some(link) = link_said(*settings, marks)
+        {
+            *self = link;
         }
     }
 }

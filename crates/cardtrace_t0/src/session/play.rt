@@ -1,57 +1,27 @@
 ghost use Rattle.std.specs.Prelude.{◌≡◌, ◌++◌, OnOk};
-ghost use Rattle.link.specs.Turns.{send, restart};
+ghost use Rattle.link.specs.Meant.{meant_order};
 ghost use Rattle.script.specs.Scripts.{following};
-ghost use Rattle.cardtrace_t0.specs.Plays.{turned, turn_played};
-ghost use Rattle.cardtrace_t0.specs.Sessions.{stand_of, on_direct, tracing, begins, takes, ends, step_played, TracesScripts};
+ghost use Rattle.cardtrace_t0.specs.Plays.{opened, turned};
+ghost use Rattle.cardtrace_t0.specs.Sessions.{stand_of, on_direct, tracing, begins, takes, ends, plays, TracesScripts};
 
-use crate::session::print::{play_reset, play_send, write_bad};
+use crate::session::print::play_turn;
 use crate::session::{Session, Stand, Trouble};
-use apdu::Application;
-use link::Link;
+use link::Order;
 use script::line::Line;
-use script::reader::{Reader, Refusal, Step};
-use std::mem::replace;
+use script::reader::{Reader, Refusal};
+use script::trace::{TurnLabel, bad_line};
 
 impl Stand {
-    // Plays a turn that sends a command, and adds what it prints to the text.
-    fn send(
-        self,
-        turn: u64,
-        program: u8,
-        command: &[u8],
-        out: &mut Vec<u8>,
-    ) -> (Stand, Result<(), Trouble>)
-        ensures after { stand_of result.0 ≡ (turned (stand_of self) turn program (send command.now)).after.stand }
-        ensures text { OnOk result.1 (out.new.items ≡ out.old.items ++ (turned (stand_of self) turn program (send command.now)).text) }
+    // Plays a turn, the first of which makes the link, and adds what it prints to the text.
+    fn play(&mut self, label: TurnLabel, order: Order<'_>, out: &mut Vec<u8>) -> Result<(), Trouble>
+        ensures after { stand_of self.new ≡ (turned (opened (stand_of self.old)) label.turn label.program (meant_order order.entry)).after.stand }
+        ensures text { OnOk result (out.new.items ≡ out.old.items ++ (turned (opened (stand_of self.old)) label.turn label.program (meant_order order.entry)).text) }
     {
+        self.open();
         match self {
-            Stand::OverT0(mut link) => {
-                let result = play_send(&mut link, turn, program, command, out);
-                (Stand::OverT0(link), result)
-            }
-            Stand::Direct(mut link) => {
-                let result = play_send(&mut link, turn, program, command, out);
-                (Stand::Direct(link), result)
-            }
-            other => (other, Ok(())),
-        }
-    }
-
-    // Plays a turn that resets the card, likewise.
-    fn reset(self, turn: u64, program: u8, out: &mut Vec<u8>) -> (Stand, Result<(), Trouble>)
-        ensures after { stand_of result.0 ≡ (turned (stand_of self) turn program restart).after.stand }
-        ensures text { OnOk result.1 (out.new.items ≡ out.old.items ++ (turned (stand_of self) turn program restart).text) }
-    {
-        match self {
-            Stand::OverT0(mut link) => {
-                let result = play_reset(&mut link, turn, program, out);
-                (Stand::OverT0(link), result)
-            }
-            Stand::Direct(mut link) => {
-                let result = play_reset(&mut link, turn, program, out);
-                (Stand::Direct(link), result)
-            }
-            other => (other, Ok(())),
+            Stand::Unlinked | Stand::Opening { .. } => Ok(()),
+            Stand::OverT0(link) => play_turn(link, label, order, out),
+            Stand::Direct(link) => play_turn(link, label, order, out),
         }
     }
 }
@@ -89,65 +59,53 @@ impl Session {
 
     // Whether the turns are played on the direct card.
     pub fn is_direct(&self) -> bool
-        ensures { result ≡ on_direct self.now.stand }
+        ensures { result ≡ on_direct self.now }
     {
         matches!(self.stand, Stand::Direct(_))
     }
 
     // Plays what the reader told.
-    fn play(&mut self, step: Step, out: &mut Vec<u8>) -> Result<(), Trouble>
-        ensures after { tracing self.new ≡ record { reading = (tracing self.old).reading; playing = (step_played (tracing self.old).playing step (tracing self.old).reading.command).after } }
-        ensures text { OnOk result (out.new.items ≡ out.old.items ++ (step_played (tracing self.old).playing step (tracing self.old).reading.command).text) }
+    fn play(
+        &mut self,
+        step: Result<Option<Line>, Refusal>,
+        out: &mut Vec<u8>,
+    ) -> Result<(), Trouble>
+        ensures after { tracing self.new ≡ (plays (tracing self.old) step).after }
+        ensures text { OnOk result (out.new.items ≡ out.old.items ++ (plays (tracing self.old) step).text) }
     {
         match step {
-            Step::More => Ok(()),
-            Step::Refused(Refusal::BadLine { line }) => write_bad(line, out),
-            Step::Line(Line::Link(settings)) => {
-                let stand = replace(&mut self.stand, Stand::Unlinked);
-                self.stand = stand.link(settings);
+            Ok(None) => Ok(()),
+            Ok(Some(Line::Link(settings))) => {
+                self.stand.link(settings);
                 Ok(())
             }
-            Step::Line(Line::Damage(position)) => {
-                let stand = replace(&mut self.stand, Stand::Unlinked);
-                self.stand = stand.mark(position);
+            Ok(Some(Line::Damage(position))) => {
+                self.stand.mark(position);
                 Ok(())
             }
-            Step::Line(Line::Send { program, length: _ }) => self.play_send(program, out),
-            Step::Line(Line::Reset { program }) => self.play_reset(program, out),
+            Ok(Some(Line::Send { program, .. })) => {
+                let label = self.next_label(program);
+                self.stand
+                    .play(label, Order::Send(self.reader.command()), out)
+            }
+            Ok(Some(Line::Reset { program })) => {
+                let label = self.next_label(program);
+                self.stand.play(label, Order::Reset, out)
+            }
+            Err(Refusal::BadLine { line }) => {
+                out.extend_from_slice(bad_line(line).as_bytes())?;
+                Ok(())
+            }
         }
     }
 
-    // The number of this turn; the next has the following one.
-    fn count_turn(&mut self) -> u64
-        ensures turn { result ≡ self.old.turn }
+    // Labels this turn with its number and program; the next has the following number.
+    fn next_label(&mut self, program: u8) -> TurnLabel
+        ensures label { result ≡ record { turn = self.old.turn; program = program } }
         ensures after { self.new ≡ record { reader = self.old.reader; stand = self.old.stand; turn = following self.old.turn } }
     {
         let turn = self.turn;
         self.turn = turn.saturating_add(1);
-        turn
-    }
-
-    // A turn that sends the command of the last send line.
-    fn play_send(&mut self, program: u8, out: &mut Vec<u8>) -> Result<(), Trouble>
-        ensures after { tracing self.new ≡ record { reading = (tracing self.old).reading; playing = (turn_played (tracing self.old).playing program (send (tracing self.old).reading.command)).after } }
-        ensures text { OnOk result (out.new.items ≡ out.old.items ++ (turn_played (tracing self.old).playing program (send (tracing self.old).reading.command)).text) }
-    {
-        let turn = self.count_turn();
-        let stand = replace(&mut self.stand, Stand::Unlinked).open();
-        let (stand, result) = stand.send(turn, program, self.reader.command(), out);
-        self.stand = stand;
-        result
-    }
-
-    // A turn that resets the card.
-    fn play_reset(&mut self, program: u8, out: &mut Vec<u8>) -> Result<(), Trouble>
-        ensures after { tracing self.new ≡ record { reading = (tracing self.old).reading; playing = (turn_played (tracing self.old).playing program restart).after } }
-        ensures text { OnOk result (out.new.items ≡ out.old.items ++ (turn_played (tracing self.old).playing program restart).text) }
-    {
-        let turn = self.count_turn();
-        let stand = replace(&mut self.stand, Stand::Unlinked).open();
-        let (stand, result) = stand.reset(turn, program, out);
-        self.stand = stand;
-        result
+        TurnLabel { turn, program }
     }
 }

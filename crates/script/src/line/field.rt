@@ -1,32 +1,15 @@
-ghost use Rattle.std.specs.Prelude.{◌≡◌};
+ghost use Rattle.std.specs.Prelude.{◌≡◌, ◌&&◌};
 ghost use Rattle.std.specs.Option.{option_map};
-ghost use Rattle.std.specs.Str.{bytes_eq};
-ghost use Rattle.script.specs.Fields.{split, both, is_digit, well_led, number};
+ghost use Rattle.script.specs.Fields.{split, both, all_digits, well_led, number};
+
+use std::str;
 
 // The text before the first comma and the text after it, where there is a comma.
 pub fn cut(text: &[u8]) -> Option<(&[u8], &[u8])>
     ensures { option_map both result ≡ split text.now }
 {
-    for (i, b) in text.iter().enumerate() {
-        if *b == b',' {
-            return Some((&text[0..i], &text[i + 1..]));
-        }
-    }
-    None
-}
-
-// Whether a text is a word.
-pub fn is_word(text: &[u8], word: &[u8]) -> bool
-    ensures { result ≡ bytes_eq text.now word.now }
-{
-    text == word
-}
-
-// Whether a byte is a digit.
-fn is_digit(b: u8) -> bool
-    ensures { result ≡ is_digit b }
-{
-    b >= b'0' && b <= b'9'
+    let comma = text.iter().position(|b| *b == b',')?;
+    Some((&text[..comma], &text[comma + 1..]))
 }
 
 // Whether there is a first byte, which is a 0 only where it stands alone.
@@ -40,33 +23,27 @@ fn is_well_led(text: &[u8]) -> bool
     }
 }
 
+// Whether a text is a number in plain decimal.
+fn is_numeral(text: &[u8]) -> bool
+    ensures { result ≡ (well_led text.now && all_digits text.now) }
+{
+    is_well_led(text) && text.iter().all(|b| b.is_ascii_digit())
+}
+
 // A number from `low` to `high`, written in plain decimal.
 pub fn read_number(text: &[u8], low: u16, high: u16) -> Option<u16>
     ensures { result ≡ number low high text.now }
 {
-    if !is_well_led(text) {
+    if !is_numeral(text) {
         return None;
     }
-    let mut n: u32 = 0;
-    for b in text {
-        if !is_digit(*b) {
-            return None;
-        }
-        n = n * 10 + (*b - b'0') as u32;
-        if n > high as u32 {
-            return None;
-        }
-    }
-    if n < low as u32 {
-        return None;
-    }
-    Some(n as u16)
+    let number = str::from_utf8(text).ok()?.parse().ok()?;
+    (low..=high).contains(&number).then_some(number)
 }
 
 // The same of a byte.
 pub fn read_byte(text: &[u8], low: u8, high: u8) -> Option<u8>
     ensures { result ≡ number low high text.now }
 {
-    let n = read_number(text, low as u16, high as u16)?;
-    Some(n as u8)
+    u8::try_from(read_number(text, low as u16, high as u16)?).ok()
 }

@@ -1,54 +1,32 @@
-ghost use Rattle.std.specs.Prelude.{◌≡◌, length};
+ghost use Rattle.std.specs.Prelude.{◌≡◌, if◌then◌else◌, Some, None};
 ghost use Rattle.std.specs.Option.{option_map};
-ghost use Rattle.script.specs.Hex.{is_hex, hex_value, all_hex, command_of, opened_by};
+ghost use Rattle.script.specs.Hex.{is_hex, hex_value, command_of};
 
-// Whether a byte is a hex digit.
-fn is_hex(c: u8) -> bool
-    ensures { result ≡ is_hex c }
-{
-    (c >= b'0' && c <= b'9') || (c >= b'A' && c <= b'F')
-}
+use crate::line::COMMAND_MAX;
+use arrayvec::ArrayVec;
 
 // The number of a hex digit.
-fn value(c: u8) -> u8
-    ensures { result ≡ hex_value c }
+fn hex_value(digit: u8) -> Option<u8>
+    ensures { result ≡ (if is_hex digit then Some (hex_value digit) else None) }
 {
-    if c <= b'9' {
-        c.saturating_sub(b'0')
-    } else {
-        c - 55
+    match digit {
+        b'0'..=b'9' => Some(digit - b'0'),
+        b'A'..=b'F' => Some(digit - b'A' + 10),
+        _ => None,
     }
 }
 
-// Whether a text has hex digits only.
-fn is_all_hex(text: &[u8]) -> bool
-    ensures { result ≡ all_hex text.now }
+// Reads the hex digits of a command.
+pub fn read_command(digits: &[u8]) -> Option<ArrayVec<u8, COMMAND_MAX>>
+    ensures { option_map (λ command. command.items) result ≡ command_of digits.now }
 {
-    for c in text {
-        if !is_hex(*c) {
-            return false;
-        }
+    let mut command = ArrayVec::new();
+    let mut rest = digits;
+    while let [high, low, after @ ..] = rest {
+        command
+            .try_push(hex_value(*high)? * 16 + hex_value(*low)?)
+            .ok()?;
+        rest = after;
     }
-    true
-}
-
-// Reads the hex digits of a command into the front of a memory, and says how many bytes there are. A text that is no command leaves the memory as it was.
-pub fn read_command(text: &[u8], memory: &mut [u8; 300]) -> Option<u16>
-    ensures count { result ≡ option_map length (command_of text.now) }
-    ensures bytes { memory.new ≡ opened_by (command_of text.now) memory.old }
-{
-    if text.len() > 600 {
-        return None;
-    }
-    if text.len() % 2 != 0 {
-        return None;
-    }
-    if !is_all_hex(text) {
-        return None;
-    }
-    let count = text.len() / 2;
-    for i in 0..count {
-        memory[i] = value(text[2 * i]) * 16 + value(text[2 * i + 1]);
-    }
-    Some(count as u16)
+    if rest.is_empty() { Some(command) } else { None }
 }

@@ -1,19 +1,18 @@
 ghost use Rattle.std.specs.Prelude.{◌≡◌};
 ghost use Rattle.script.specs.Links.{protocol_of, style_of, settings_of};
 
-use crate::line::field::{cut, is_word, read_byte};
-use crate::line::{Protocol, Settings, Style};
+use crate::line::field::{cut, read_byte};
+use crate::line::{Protocol, Settings};
+use t0::Style;
 
 // T.
 fn read_protocol(text: &[u8]) -> Option<Protocol>
     ensures { result ≡ protocol_of text.now }
 {
-    if is_word(text, b"0") {
-        Some(Protocol::T0)
-    } else if is_word(text, b"1") {
-        Some(Protocol::T1)
-    } else {
-        None
+    match text {
+        b"0" => Some(Protocol::T0),
+        b"1" => Some(Protocol::T1),
+        _ => None,
     }
 }
 
@@ -21,12 +20,10 @@ fn read_protocol(text: &[u8]) -> Option<Protocol>
 fn read_style(text: &[u8]) -> Option<Style>
     ensures { result ≡ style_of text.now }
 {
-    if is_word(text, b"w") {
-        Some(Style::Whole)
-    } else if is_word(text, b"b") {
-        Some(Style::Bytewise)
-    } else {
-        None
+    match text {
+        b"w" => Some(Style::Whole),
+        b"b" => Some(Style::Bytewise),
+        _ => None,
     }
 }
 
@@ -34,15 +31,15 @@ fn read_style(text: &[u8]) -> Option<Style>
 pub fn read_settings(text: &[u8]) -> Option<Settings>
     ensures { result ≡ settings_of text.now }
 {
-    let (t, after_t) = cut(text)?;
-    let protocol = read_protocol(t)?;
-    let (c, after_c) = cut(after_t)?;
-    let ifsc = read_byte(c, 1, 254)?;
-    let (d, after_d) = cut(after_c)?;
-    let ifsd = read_byte(d, 1, 254)?;
-    let (n, s) = cut(after_d)?;
-    let waits = read_byte(n, 0, 15)?;
-    let style = read_style(s)?;
+    let (protocol, text) = cut(text)?;
+    let protocol = read_protocol(protocol)?;
+    let (ifsc, text) = cut(text)?;
+    let ifsc = read_byte(ifsc, 1, 254)?;
+    let (ifsd, text) = cut(text)?;
+    let ifsd = read_byte(ifsd, 1, 254)?;
+    let (waits, style) = cut(text)?;
+    let waits = read_byte(waits, 0, 15)?;
+    let style = read_style(style)?;
     Some(Settings {
         protocol,
         ifsc,

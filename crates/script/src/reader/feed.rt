@@ -1,43 +1,30 @@
-ghost use Rattle.std.specs.Prelude.{◌≡◌, take};
+ghost use Rattle.std.specs.Prelude.{◌≡◌, Err};
 ghost use Rattle.script.specs.Readings.{fresh, fed, finished, grown, line_ended, refused, shown};
-ghost use Rattle.script.specs.Readers.{meaning};
 
-use crate::line::{Line, read_line};
-use crate::reader::{Reader, Refusal, Stage, Step};
-
-// The first `count` bytes.
-fn front(bytes: &[u8], count: usize) -> &[u8]
-    ensures { result.now ≡ take count bytes.now }
-{
-    if count < bytes.len() {
-        &bytes[0..count]
-    } else {
-        bytes
-    }
-}
+use crate::line::{Line, parse};
+use crate::reader::{Reader, Refusal, Stage};
+use arrayvec::ArrayVec;
 
 impl Reader {
     pub fn new() -> Reader
-        ensures { meaning result ≡ fresh }
+        ensures { result ≡ fresh }
     {
         Reader {
             number: 1,
             stage: Stage::Start,
-            part: [0; 609],
-            filled: 0,
-            memory: [0; 300],
-            sent: 0,
+            part: ArrayVec::new(),
+            command: ArrayVec::new(),
             over: false,
         }
     }
 
     // Takes the next byte of the script.
-    pub fn push(&mut self, byte: u8) -> Step
-        ensures state { meaning self.new ≡ (fed (meaning self.old) byte).after }
-        ensures value { result ≡ shown (fed (meaning self.old) byte).out }
+    pub fn push(&mut self, byte: u8) -> Result<Option<Line>, Refusal>
+        ensures state { self.new ≡ (fed self.old byte).after }
+        ensures value { result ≡ shown (fed self.old byte).out }
     {
         if self.over {
-            return Step::More;
+            return Ok(None);
         }
         if byte == b'\n' {
             return self.end_line();
@@ -46,70 +33,67 @@ impl Reader {
     }
 
     // Takes the end of the script.
-    pub fn finish(&mut self) -> Step
-        ensures state { meaning self.new ≡ (finished (meaning self.old)).after }
-        ensures value { result ≡ shown (finished (meaning self.old)).out }
+    pub fn finish(&mut self) -> Result<Option<Line>, Refusal>
+        ensures state { self.new ≡ (finished self.old).after }
+        ensures value { result ≡ shown (finished self.old).out }
     {
         if self.over {
-            return Step::More;
+            return Ok(None);
         }
-        if self.filled == 0 {
+        if self.part.is_empty() {
             self.over = true;
-            return Step::More;
+            return Ok(None);
         }
-        let step = self.end_line();
+        let ended = self.end_line();
         self.over = true;
-        step
+        ended
     }
 
     // The command of the last send line.
     pub fn command(&self) -> &[u8]
-        ensures { result.now ≡ (meaning self.now).command }
+        ensures { result.now ≡ self.now.command }
     {
-        front(&self.memory, self.sent)
+        self.command.as_slice()
     }
 
     // Puts a byte into the current line, which is refused where it is full.
-    fn grow(&mut self, byte: u8) -> Step
-        ensures state { meaning self.new ≡ (grown (meaning self.old) byte).after }
-        ensures value { result ≡ shown (grown (meaning self.old) byte).out }
+    fn grow(&mut self, byte: u8) -> Result<Option<Line>, Refusal>
+        ensures state { self.new ≡ (grown self.old byte).after }
+        ensures value { result ≡ shown (grown self.old byte).out }
     {
-        if self.filled >= 609 {
-            return self.refuse();
+        match self.part.try_push(byte) {
+            Ok(()) => Ok(None),
+            Err(_) => Err(self.refuse()),
         }
-        self.part[self.filled] = byte;
-        self.filled += 1;
-        Step::More
     }
 
     // Ends the reading at the current line, which is bad.
-    fn refuse(&mut self) -> Step
-        ensures state { meaning self.new ≡ (refused (meaning self.old)).after }
-        ensures value { result ≡ shown (refused (meaning self.old)).out }
+    fn refuse(&mut self) -> Refusal
+        ensures state { self.new ≡ (refused self.old).after }
+        ensures value { Err result ≡ shown (refused self.old).out }
     {
-        self.sent = 0;
+        self.command.clear();
         self.over = true;
-        Step::Refused(Refusal::BadLine { line: self.number })
+        Refusal::BadLine { line: self.number }
     }
 
     // Reads the current line, which has ended.
-    fn end_line(&mut self) -> Step
-        ensures state { meaning self.new ≡ (line_ended (meaning self.old)).after }
-        ensures value { result ≡ shown (line_ended (meaning self.old)).out }
+    fn end_line(&mut self) -> Result<Option<Line>, Refusal>
+        ensures state { self.new ≡ (line_ended self.old).after }
+        ensures value { result ≡ shown (line_ended self.old).out }
     {
-        let text = front(&self.part, self.filled);
-        let Some(line) = read_line(text, &mut self.memory) else {
-            return self.refuse();
+        let Some((line, command)) = parse(&self.part) else {
+            return Err(self.refuse());
         };
         let Some(stage) = self.stage.after(line) else {
-            return self.refuse();
+            return Err(self.refuse());
         };
         self.number = self.number.saturating_add(1);
         self.stage = stage;
-        self.filled = 0;
-        if let Line::Send { program: _, length } = line {
-            self.sent = length as usize;
+        self.part.clear();
+        if let Line::Send { .. } = line {
+            self.command = command;
         }
-        Step::Line(line)
+        Ok(Some(line))
     }
 }

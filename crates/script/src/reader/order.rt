@@ -11,27 +11,16 @@ impl Stage {
     {
         match (self, line) {
             (Stage::Start, Line::Link(_)) => Some(Stage::Marks { floor: 0, count: 0 }),
-            (Stage::Start, _) => None,
-            (_, Line::Link(_)) => None,
-            (Stage::Marks { floor, count }, Line::Damage(k)) => {
-                if k as u32 >= floor && count < 64 {
-                    Some(Stage::Marks {
-                        floor: k as u32 + 1,
-                        count: count + 1,
-                    })
-                } else {
-                    None
-                }
+            (Stage::Marks { floor, count }, Line::Damage(k)) if k as u32 >= floor && count < 64 => {
+                Some(Stage::Marks {
+                    floor: k as u32 + 1,
+                    count: count + 1,
+                })
             }
-            (Stage::Turns, Line::Damage(_)) => None,
-            (
-                _,
-                Line::Send {
-                    program: _,
-                    length: _,
-                },
-            ) => Some(Stage::Turns),
-            (_, Line::Reset { program: _ }) => Some(Stage::Turns),
+            (Stage::Marks { .. } | Stage::Turns, Line::Send { .. } | Line::Reset { .. }) => {
+                Some(Stage::Turns)
+            }
+            _ => None,
         }
     }
 }

@@ -1,7 +1,7 @@
 ghost use Rattle.std.specs.Prelude.{◌≡◌, [], ◌∷◌, ◌++◌, take};
 ghost use Rattle.apdu.specs.Commands.{wanted};
 ghost use Rattle.t0.specs.Cards.{same_header, is_get_response, fetched, begun, answered, headed, asks_next, data_so_far};
-ghost use Rattle.t0.specs.CardValues.{meant, held_of, pending_of};
+ghost use Rattle.t0.specs.CardValues.{Becomes, pending_of};
 
 use crate::card::{Card, Kept, Out, Receiving, Taking, Then};
 use crate::settings::Style;
@@ -17,8 +17,7 @@ fn is_get_response(header: Header) -> bool
 impl<A: Application> Card<A> {
     // GET RESPONSE.
     fn fetch(&mut self, p3: u8)
-        ensures card { meant A.Application.means self.new ≡ fetched self.old.settings (A.Application.means.state self.old.app) (held_of self.old.answer self.old.kept) (wanted p3) }
-        ensures settings { self.new.settings ≡ self.old.settings }
+        ensures { Becomes A.Application.means self.old self.new (λ s c. fetched s c.state c.held (wanted p3)) }
     {
         match self.kept {
             Kept::By61(answer) => self.serve(0xc0, p3, answer, Kept::By61(answer)),
@@ -28,8 +27,7 @@ impl<A: Application> Card<A> {
 
     // A header that nothing held answers.
     fn begin(&mut self, header: Header, p3: u8)
-        ensures card { meant A.Application.means self.new ≡ begun A.Application.means self.old.settings (A.Application.means.state self.old.app) header p3 }
-        ensures settings { self.new.settings ≡ self.old.settings }
+        ensures { Becomes A.Application.means self.old self.new (λ s c. begun A.Application.means s c.state header p3) }
     {
         if header.is_reserved() {
             self.close(Kept::Nothing, 0x6d, 0x00);
@@ -50,22 +48,21 @@ impl<A: Application> Card<A> {
 
     // A header that is not GET RESPONSE.
     fn respond(&mut self, header: Header, p3: u8)
-        ensures card { meant A.Application.means self.new ≡ answered A.Application.means self.old.settings (A.Application.means.state self.old.app) (held_of self.old.answer self.old.kept) header p3 }
-        ensures settings { self.new.settings ≡ self.old.settings }
+        ensures { Becomes A.Application.means self.old self.new (λ s c. answered A.Application.means s c.state c.held header p3) }
     {
-        if let Kept::By6C(asked, answer) = self.kept {
-            if asked == header && p3 as usize == answer.last as usize + 1 {
-                self.give(header.ins, answer.last, answer.status);
-                return;
-            }
+        if let Kept::By6C(asked, answer) = self.kept
+            && asked == header
+            && p3 as usize == answer.count()
+        {
+            self.give(header.ins, answer.last, answer.status);
+        } else {
+            self.begin(header, p3);
         }
-        self.begin(header, p3);
     }
 
     // A whole header.
     pub(super) fn head(&mut self, header: Header, p3: u8)
-        ensures card { meant A.Application.means self.new ≡ headed A.Application.means self.old.settings (A.Application.means.state self.old.app) (held_of self.old.answer self.old.kept) header p3 }
-        ensures settings { self.new.settings ≡ self.old.settings }
+        ensures { Becomes A.Application.means self.old self.new (λ s c. headed A.Application.means s c.state c.held header p3) }
     {
         if is_get_response(header) {
             self.fetch(p3);
@@ -86,8 +83,7 @@ impl<A: Application> Card<A> {
 
     // One more byte of data; with the last one the command runs.
     pub(super) fn take(&mut self, taking: Taking, byte: u8)
-        ensures card { meant A.Application.means self.new ≡ data_so_far A.Application.means self.old.settings (meant A.Application.means self.old) taking.header taking.lc (take taking.have self.old.body ++ (byte ∷ [])) }
-        ensures settings { self.new.settings ≡ self.old.settings }
+        ensures { Becomes A.Application.means self.old self.new (λ s c. data_so_far A.Application.means s c taking.header taking.lc (take taking.have self.old.body ++ (byte ∷ []))) }
     {
         self.body[taking.have as usize] = byte;
         let have = taking.have + 1;

@@ -1,6 +1,6 @@
 ghost use Rattle.std.specs.Prelude.{◌≡◌};
 ghost use Rattle.t0.specs.Cards.{at_rest, nothing, next_of, spoken, received, card_reset};
-ghost use Rattle.t0.specs.CardValues.{meant};
+ghost use Rattle.t0.specs.CardValues.{meant, Becomes};
 
 use crate::card::{Card, Kept, Out, Receiving};
 use crate::settings::Settings;
@@ -36,8 +36,7 @@ impl<A: Application> Card<A> {
 
     // Takes a character; one that comes while the card has some to send is ignored.
     pub fn receive(&mut self, byte: u8)
-        ensures card { meant A.Application.means self.new ≡ received A.Application.means self.old.settings (meant A.Application.means self.old) byte }
-        ensures settings { self.new.settings ≡ self.old.settings }
+        ensures { Becomes A.Application.means self.old self.new (λ s c. received A.Application.means s c byte) }
     {
         if self.out.has_some() {
             return;
@@ -61,8 +60,7 @@ impl<A: Application> Card<A> {
 
     // A warm reset.
     pub fn reset(&mut self)
-        ensures card { meant A.Application.means self.new ≡ card_reset A.Application.means (meant A.Application.means self.old) }
-        ensures settings { self.new.settings ≡ self.old.settings }
+        ensures { Becomes A.Application.means self.old self.new (λ _ c. card_reset A.Application.means c) }
     {
         self.app.reset();
         self.receiving = Receiving::Nothing;

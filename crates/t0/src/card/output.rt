@@ -1,4 +1,4 @@
-ghost use Rattle.std.specs.Prelude.{◌≡◌};
+ghost use Rattle.std.specs.Prelude.{◌≡◌, ℕ, List, length};
 ghost use Rattle.t0.specs.Cards.{next_of, rest_of};
 ghost use Rattle.t0.specs.Procedures;
 ghost use Rattle.t0.specs.CardValues.{pending_of, given_rest, has_some};
@@ -12,43 +12,42 @@ fn mover(style: Style, ins: u8) -> u8
 {
     match style {
         Style::Whole => ins,
-        Style::Bytewise => 255 - ins,
+        Style::Bytewise => !ins,
     }
 }
 
 impl Giving {
     // What follows the byte that is next.
-    fn after(self, settings: Settings, answer: &[u8; 256]) -> Out
-        ensures { pending_of settings answer.now result ≡ given_rest settings answer.now self }
+    fn after(self, settings: Settings) -> Out
+        ensures { (memory : List ℕ) → length memory ≡ 256 → pending_of settings memory result ≡ given_rest settings memory self }
     {
         if self.at >= self.last {
             return Out::after_waits(settings, Then::Close(self.status.sw1(), self.status.sw2()));
         }
         let next = Giving {
-            ins: self.ins,
             at: self.at + 1,
-            last: self.last,
-            status: self.status,
+            ..self
         };
         match settings.style() {
-            Style::Whole => Out {
-                waits: 0,
-                then: Then::Give(next),
-            },
+            Style::Whole => Out::at_once(Then::Give(next)),
             Style::Bytewise => Out::after_waits(settings, Then::Announce(next)),
         }
     }
 }
 
 impl Out {
+    // This, with no bytes 60 before it.
+    fn at_once(then: Then) -> Out
+        ensures { result ≡ record { waits = 0; then = then } }
+    {
+        Out { waits: 0, then }
+    }
+
     // Nothing is to be sent.
     pub(super) fn nothing() -> Out
         ensures { result ≡ record { waits = 0; then = Then.Nothing } }
     {
-        Out {
-            waits: 0,
-            then: Then::Nothing,
-        }
+        Out::at_once(Then::Nothing)
     }
 
     // A procedure byte and what follows it, after the set number of bytes 60.
@@ -65,7 +64,7 @@ impl Out {
     pub(super) fn has_some(self) -> bool
         ensures { result ≡ has_some self }
     {
-        self.waits > 0 || !matches!(self.then, Then::Nothing)
+        self.waits > 0 || self.then != Then::Nothing
     }
 
     // The next character, if there is one, and what is still to be sent after it.
@@ -76,31 +75,19 @@ impl Out {
         if self.waits > 0 {
             let out = Out {
                 waits: self.waits - 1,
-                then: self.then,
+                ..self
             };
             return (Some(0x60), out);
         }
         match self.then {
             Then::Nothing => (None, self),
             Then::Ask(ins) => (Some(mover(settings.style(), ins)), Out::nothing()),
-            Then::Announce(giving) => {
-                let out = Out {
-                    waits: 0,
-                    then: Then::Give(giving),
-                };
-                (Some(mover(settings.style(), giving.ins)), out)
-            }
-            Then::Give(giving) => (
-                Some(answer[giving.at as usize]),
-                giving.after(settings, answer),
+            Then::Announce(giving) => (
+                Some(mover(settings.style(), giving.ins)),
+                Out::at_once(Then::Give(giving)),
             ),
-            Then::Close(sw1, sw2) => {
-                let out = Out {
-                    waits: 0,
-                    then: Then::End(sw2),
-                };
-                (Some(sw1), out)
-            }
+            Then::Give(giving) => (Some(answer[giving.at as usize]), giving.after(settings)),
+            Then::Close(sw1, sw2) => (Some(sw1), Out::at_once(Then::End(sw2))),
             Then::End(sw2) => (Some(sw2), Out::nothing()),
         }
     }

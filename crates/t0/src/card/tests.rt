@@ -41,19 +41,17 @@ impl Application for Counter {
 }
 
 fn installed(waits: u8, style: Style) -> Result<Card<Counter>, Fail> {
-    match Settings::new(waits, style) {
-        Ok(settings) => Ok(Card::new(Counter { runs: 0 }, settings)),
-        Err(_) => Err(Fail::new("outside the limits")),
-    }
+    let settings = Settings::new(waits, style).map_err(|_| Fail::new("outside the limits"))?;
+    Ok(Card::new(Counter { runs: 0 }, settings))
 }
 
 // Hands characters to the card, and holds what it then sends to what is expected.
 fn exchange(rt: &impl Abort, card: &mut Card<Counter>, sent: &[u8], expected: &[u8]) {
-    for byte in sent {
-        card.receive(*byte);
+    for &byte in sent {
+        card.receive(byte);
     }
-    for byte in expected {
-        assert_eq!(rt; card.next(), Some(*byte));
+    for &byte in expected {
+        assert_eq!(rt; card.next(), Some(byte));
     }
     assert_eq!(rt; card.next(), None);
 }

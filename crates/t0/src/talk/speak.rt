@@ -1,124 +1,100 @@
-ghost use Rattle.std.specs.Prelude.{◌≡◌, [], slice_index};
-ghost use Rattle.t0.specs.CardValues.{meant};
-ghost use Rattle.t0.specs.Conversations.{Joined, speaks, terminal_speaks, card_speaks, talk};
+ghost use Rattle.std.specs.Prelude.{◌≡◌, ℕ, List, []};
+ghost use Rattle.t0.specs.Conversations.{speaks, terminal_speaks, card_speaks, talk, most};
 ghost use Rattle.t0.specs.Talks.{Speaks, Talks, spoke_of, kept_in};
 ghost use Rattle.t0.specs.Terminals.{hears};
-ghost use Rattle.t0.specs.Conversations.{most};
+ghost use Rattle.t0.specs.Wired.{wired_of, joined};
 
-use crate::card::Card;
 use crate::carry::carry;
-use crate::talk::{Ending, Spoke};
+use crate::talk::{Ended, Failure, Spoke, WiredCard};
 use crate::terminal::{Step, Waiting, Want};
 use apdu::Application;
+use std::ops::ControlFlow;
 use wire::{Line, Record, Sender, Traced};
 
-// The terminal sends a character, and the card sees it if it arrives.
-fn terminal_speaks<A: Application, L: Line>(
-    card: &mut Card<A>,
-    line: &mut L,
-    waiting: Waiting,
-    staged: &[u8; 256],
-    byte: u8,
-    trace: &mut Record<'_, Traced>,
-) -> Spoke
-    ensures spoke { Speaks (terminal_speaks A.Application.means card.old.settings [] (record { terminal = waiting; card = meant A.Application.means card.old; staged = staged.now; coming = L.Line.damage line.old }) byte) result (meant A.Application.means card.new) staged.now (L.Line.damage line.new) trace.old trace.new }
-    ensures settings { card.new.settings ≡ card.old.settings }
-{
-    match carry(line, Sender::Terminal, byte, trace) {
-        Some(arrived) => {
-            card.receive(arrived);
-            Spoke::On(waiting.sent())
-        }
-        None => Spoke::Off(Ending::Lost),
-    }
-}
-
-// The card sends its next character, and the terminal hears it if it arrives.
-fn card_speaks<A: Application, L: Line>(
-    card: &mut Card<A>,
-    line: &mut L,
-    waiting: Waiting,
-    staged: &mut [u8; 256],
-    trace: &mut Record<'_, Traced>,
-) -> Spoke
-    ensures spoke { Speaks (card_speaks A.Application.means card.old.settings [] (record { terminal = waiting; card = meant A.Application.means card.old; staged = staged.old; coming = L.Line.damage line.old }) (meant A.Application.means card.old).pending) result (meant A.Application.means card.new) staged.new (L.Line.damage line.new) trace.old trace.new }
-    ensures settings { card.new.settings ≡ card.old.settings }
-{
-    let Some(byte) = card.next() else {
-        return Spoke::Off(Ending::Broken);
-    };
-    let Some(arrived) = carry(line, Sender::Card, byte, trace) else {
-        return Spoke::Off(Ending::Lost);
-    };
-    hear(waiting, arrived, staged)
-}
-
 // What the terminal makes of a character that arrived.
-fn hear(waiting: Waiting, byte: u8, staged: &mut [u8; 256]) -> Spoke
+fn hear(waiting: Waiting, byte: u8, staged: &mut [u8; 256]) -> Result<Spoke, Failure>
     ensures goes { result ≡ spoke_of (hears waiting waiting.phase byte) }
     ensures bytes { staged.new ≡ kept_in (hears waiting waiting.phase byte) byte staged.old }
 {
     match waiting.receive(byte) {
-        Step::Next(waiting) => Spoke::On(waiting),
+        Step::Next(waiting) => Ok(ControlFlow::Continue(waiting)),
         Step::Keep(waiting, place) => {
             if place < 256 {
                 staged[place] = byte;
             }
-            Spoke::On(waiting)
+            Ok(ControlFlow::Continue(waiting))
         }
-        Step::Done(_, count, status) => Spoke::Off(Ending::Done(count, status)),
-        Step::Held(holding, token) => Spoke::Off(Ending::Held(holding, token)),
-        Step::Broken => Spoke::Off(Ending::Broken),
+        Step::Done(_, count, status) => Ok(ControlFlow::Break(Ended::Done(count, status))),
+        Step::Held(holding, token) => Ok(ControlFlow::Break(Ended::Held(holding, token))),
+        Step::Broken => Err(Failure::Broken),
     }
 }
 
-// A byte of the data by its place; past their end there is none, and 0 stands for it.
-fn data_byte(body: &[u8], place: usize) -> u8
-    ensures { result ≡ slice_index body.now place }
-{
-    if place < body.len() { body[place] } else { 0 }
-}
-
-// One character between the ends: whose turn it is to speak is what the terminal wants.
-fn speak<A: Application, L: Line>(
-    card: &mut Card<A>,
-    line: &mut L,
-    waiting: Waiting,
-    body: &[u8],
-    staged: &mut [u8; 256],
-    trace: &mut Record<'_, Traced>,
-) -> Spoke
-    ensures spoke { Speaks (speaks A.Application.means card.old.settings body.now (record { terminal = waiting; card = meant A.Application.means card.old; staged = staged.old; coming = L.Line.damage line.old })) result (meant A.Application.means card.new) staged.new (L.Line.damage line.new) trace.old trace.new }
-    ensures settings { card.new.settings ≡ card.old.settings }
-{
-    match waiting.want() {
-        Want::Send(byte) => terminal_speaks(card, line, waiting, staged, byte, trace),
-        Want::SendData(place) => {
-            let byte = data_byte(body, place);
-            terminal_speaks(card, line, waiting, staged, byte, trace)
-        }
-        Want::Receive => card_speaks(card, line, waiting, staged, trace),
+impl<A: Application, L: Line> WiredCard<A, L> {
+    // The terminal sends a character, and the card sees it if it arrives.
+    fn terminal_speaks(
+        &mut self,
+        waiting: Waiting,
+        byte: u8,
+        trace: &mut Record<'_, Traced>,
+    ) -> Result<Spoke, Failure>
+        ensures { let old = wired_of A.Application.means L.Line.damage self.old in (staged : List ℕ) → Speaks (terminal_speaks A.Application.means old.settings [] (joined waiting old staged) byte) result old (wired_of A.Application.means L.Line.damage self.new) staged trace.old trace.new }
+    {
+        let arrived = carry(&mut self.line, Sender::Terminal, byte, trace).ok_or(Failure::Lost)?;
+        self.card.receive(arrived);
+        Ok(ControlFlow::Continue(waiting.sent()))
     }
-}
 
-// A conversation between terminal and card over the line, from a command's header to its end.
-pub(crate) fn talk<A: Application, L: Line>(
-    card: &mut Card<A>,
-    line: &mut L,
-    start: Waiting,
-    body: &[u8],
-    staged: &mut [u8; 256],
-    trace: &mut Record<'_, Traced>,
-) -> Ending
-    ensures talked { Talks (talk A.Application.means card.old.settings body.now most (record { terminal = start; card = meant A.Application.means card.old; staged = staged.old; coming = L.Line.damage line.old })) result (meant A.Application.means card.new) staged.new (L.Line.damage line.new) trace.old trace.new }
-    ensures settings { card.new.settings ≡ card.old.settings }
-{
-    let mut waiting = start;
-    for _ in 0..16384u16 {
-        match speak(card, line, waiting, body, staged, trace) {
-            Spoke::On(next) => waiting = next,
-            Spoke::Off(ending) => return ending,
-        }
+    // The card sends its next character, and the terminal hears it if it arrives.
+    fn card_speaks(
+        &mut self,
+        waiting: Waiting,
+        staged: &mut [u8; 256],
+        trace: &mut Record<'_, Traced>,
+    ) -> Result<Spoke, Failure>
+        ensures { let old = wired_of A.Application.means L.Line.damage self.old in Speaks (card_speaks A.Application.means old.settings [] (joined waiting old staged.old) old.card.pending) result old (wired_of A.Application.means L.Line.damage self.new) staged.new trace.old trace.new }
+    {
+        let byte = self.card.next().ok_or(Failure::Broken)?;
+        let arrived = carry(&mut self.line, Sender::Card, byte, trace).ok_or(Failure::Lost)?;
+        hear(waiting, arrived, staged)
     }
-    Ending::Broken
+
+    // One character between the ends: whose turn it is to speak is what the terminal wants. Past the end of the data there is no
+    // byte, and 0 stands for it.
+    fn speak(
+        &mut self,
+        waiting: Waiting,
+        body: &[u8],
+        staged: &mut [u8; 256],
+        trace: &mut Record<'_, Traced>,
+    ) -> Result<Spoke, Failure>
+        ensures { let old = wired_of A.Application.means L.Line.damage self.old in Speaks (speaks A.Application.means old.settings body.now (joined waiting old staged.old)) result old (wired_of A.Application.means L.Line.damage self.new) staged.new trace.old trace.new }
+    {
+        let byte = match waiting.want() {
+            Want::Send(byte) => byte,
+            Want::SendData(place) => body.get(place).copied().unwrap_or(0),
+            Want::Receive => return self.card_speaks(waiting, staged, trace),
+        };
+        self.terminal_speaks(waiting, byte, trace)
+    }
+
+    // A conversation between terminal and card over the line, from a command's header to its end.
+    pub(super) fn talk(
+        &mut self,
+        start: Waiting,
+        body: &[u8],
+        staged: &mut [u8; 256],
+        trace: &mut Record<'_, Traced>,
+    ) -> Result<Ended, Failure>
+        ensures { let old = wired_of A.Application.means L.Line.damage self.old in Talks (talk A.Application.means old.settings body.now most (joined start old staged.old)) result old (wired_of A.Application.means L.Line.damage self.new) staged.new trace.old trace.new }
+    {
+        let mut waiting = start;
+        for _ in 0..16384u16 {
+            match self.speak(waiting, body, staged, trace)? {
+                ControlFlow::Continue(next) => waiting = next,
+                ControlFlow::Break(ended) => return Ok(ended),
+            }
+        }
+        Err(Failure::Broken)
+    }
 }

@@ -1,18 +1,28 @@
 ghost use Rattle.std.specs.Prelude.{◌≡◌, cond};
 ghost use Rattle.apdu.specs.Judging.{parts, judged};
 ghost use Rattle.apdu.specs.Statuses.{done};
-ghost use Rattle.t0.specs.Procedures.{as_p3};
-ghost use Rattle.t0.specs.Terminals.{sends, fetches};
+ghost use Rattle.t0.specs.Terminals.{sends, fetches, heading_for};
 ghost use Rattle.t0.specs.Starts.{started, start_of, fetched_by, discarded_by};
 
-use crate::terminal::{Begun, Discarded, Fetched, Holding, Kind, Phase, Ready, Token, Waiting};
-use apdu::{Command, Header, Status, judge};
+use crate::p3::as_p3;
+use crate::terminal::{Holding, Kind, Phase, Ready, Token, Waiting};
+use apdu::{Command, Header, Refusal, Status, judge};
 
-// A count as P3: 256 is 00.
-fn as_p3(n: usize) -> u8
-    ensures { result ≡ as_p3 n }
-{
-    if n < 256 { n as u8 } else { 0 }
+impl Waiting {
+    // A terminal that begins a header.
+    pub(super) fn heading(header: Header, p3: u8, kind: Kind, ne: usize, total: usize) -> Waiting
+        ensures { result ≡ heading_for header p3 kind ne total }
+    {
+        Waiting {
+            header,
+            p3,
+            kind,
+            ne,
+            total,
+            due: total,
+            phase: Phase::Heading(0),
+        }
+    }
 }
 
 impl Ready {
@@ -24,12 +34,12 @@ impl Ready {
     }
 
     // Begins a command, or gives the terminal back with refusal 1, 2 or 3.
-    pub fn send(self, command: &[u8]) -> Begun
+    pub fn send(self, command: &[u8]) -> Result<Waiting, (Ready, Refusal)>
         ensures { started result ≡ start_of (judged command.now 256) }
     {
         match judge(command, 256) {
-            Ok(command) => Begun::Sending(self.begin(command)),
-            Err(refusal) => Begun::Refused(self, refusal),
+            Ok(command) => Ok(self.begin(command)),
+            Err(refusal) => Err((self, refusal)),
         }
     }
 
@@ -37,44 +47,25 @@ impl Ready {
     pub(crate) fn begin(self, command: Command<'_>) -> Waiting
         ensures { result ≡ sends (parts command.entry) }
     {
-        let Ready {} = self;
         let header = command.header;
-        if header.is_inward() {
-            let total = command.body.len();
-            Waiting {
-                header,
-                p3: as_p3(total),
-                kind: Kind::Inward,
-                ne: command.ne,
-                total,
-                due: total,
-                phase: Phase::Heading(0),
-            }
+        let (kind, total) = if header.is_inward() {
+            (Kind::Inward, command.body.len())
         } else {
-            let total = command.ne;
-            Waiting {
-                header,
-                p3: as_p3(total),
-                kind: Kind::Outward,
-                ne: command.ne,
-                total,
-                due: total,
-                phase: Phase::Heading(0),
-            }
-        }
+            (Kind::Outward, command.ne)
+        };
+        Waiting::heading(header, as_p3(total), kind, command.ne, total)
     }
 }
 
 impl Token {
     // Asks for the held answer: as many bytes as are wanted, or all if fewer. Where none is wanted, it gives all back.
-    pub fn fetch(self, holding: Holding) -> Fetched
+    pub fn fetch(self, holding: Holding) -> Result<Waiting, (Holding, Token)>
         ensures { result ≡ fetched_by self holding }
     {
         if self.ne == 0 {
-            return Fetched::Unwanted(holding, self);
+            return Err((holding, self));
         }
         let Token { cla, ne, held } = self;
-        let Holding {} = holding;
         let total = held.min(ne);
         let header = Header {
             cla,
@@ -82,35 +73,22 @@ impl Token {
             p1: 0,
             p2: 0,
         };
-        Fetched::Asking(Waiting {
-            header,
-            p3: as_p3(total),
-            kind: Kind::Response,
-            ne,
-            total,
-            due: total,
-            phase: Phase::Heading(0),
-        })
+        Ok(Waiting::heading(header, as_p3(total), Kind::Response, ne, total))
     }
 
     // Leaves the held answer to be dropped by the next header, where none of it is wanted, and reports 9000. Where some is
     // wanted, it gives all back.
-    pub fn discard(self, holding: Holding) -> Discarded
+    pub fn discard(self, holding: Holding) -> Result<(Ready, Status), (Holding, Token)>
         ensures { result ≡ discarded_by self holding }
     {
         if self.ne > 0 {
-            return Discarded::Wanted(holding, self);
+            return Err((holding, self));
         }
-        let Token {
-            cla: _,
-            ne: _,
-            held: _,
-        } = self;
-        let Holding {} = holding;
-        Discarded::Done(Ready {}, Status::done())
+        self.forfeit();
+        Ok((Ready {}, Status::done()))
     }
 
-    // Spends the token of a terminal that the card's fault has ended.
+    // Spends the token, where nothing of the answer is fetched.
     pub(crate) fn forfeit(self)
         ensures { Unit {0} }
     {

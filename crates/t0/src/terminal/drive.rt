@@ -20,7 +20,7 @@ impl Waiting {
     {
         match self.phase {
             Phase::Heading(n) => Want::Send(self.header_byte(n)),
-            Phase::Sending(_) => Want::SendData(self.total.saturating_sub(self.due)),
+            Phase::Sending(_) => Want::SendData(self.place()),
             Phase::Procedure | Phase::Receiving(_) | Phase::Closing(_) => Want::Receive,
         }
     }
@@ -38,61 +38,23 @@ impl Waiting {
         }
     }
 
+    // The place of the next byte that moves.
+    fn place(&self) -> usize
+        ensures { result ≡ place self.now }
+    {
+        self.total.saturating_sub(self.due)
+    }
+
     // The terminal once it has sent what it wanted to send.
     pub fn sent(self) -> Waiting
         ensures { result ≡ has_sent self self.phase }
     {
-        let Waiting {
-            header,
-            p3,
-            kind,
-            ne,
-            total,
-            due,
-            phase,
-        } = self;
-        match phase {
-            Phase::Heading(n) => {
-                let phase = if n < 4 {
-                    Phase::Heading(n + 1)
-                } else {
-                    Phase::Procedure
-                };
-                Waiting {
-                    header,
-                    p3,
-                    kind,
-                    ne,
-                    total,
-                    due,
-                    phase,
-                }
-            }
-            Phase::Sending(n) => {
-                let phase = if n <= 1 {
-                    Phase::Procedure
-                } else {
-                    Phase::Sending(n - 1)
-                };
-                Waiting {
-                    header,
-                    p3,
-                    kind,
-                    ne,
-                    total,
-                    due: due.saturating_sub(1),
-                    phase,
-                }
-            }
-            Phase::Procedure | Phase::Receiving(_) | Phase::Closing(_) => Waiting {
-                header,
-                p3,
-                kind,
-                ne,
-                total,
-                due,
-                phase,
-            },
+        match self.phase {
+            Phase::Heading(n) if n < 4 => self.at(Phase::Heading(n + 1)),
+            Phase::Heading(_) => self.at(Phase::Procedure),
+            Phase::Sending(n) if n > 1 => self.one_fewer(Phase::Sending(n - 1)),
+            Phase::Sending(_) => self.one_fewer(Phase::Procedure),
+            Phase::Procedure | Phase::Receiving(_) | Phase::Closing(_) => self,
         }
     }
 
@@ -112,33 +74,13 @@ impl Waiting {
     fn keep(self, n: usize) -> Step
         ensures { result ≡ hears self (Phase.Receiving n) 0 }
     {
-        let Waiting {
-            header,
-            p3,
-            kind,
-            ne,
-            total,
-            due,
-            phase: _,
-        } = self;
+        let place = self.place();
         let phase = if n <= 1 {
             Phase::Procedure
         } else {
             Phase::Receiving(n - 1)
         };
-        let place = total.saturating_sub(due);
-        Step::Keep(
-            Waiting {
-                header,
-                p3,
-                kind,
-                ne,
-                total,
-                due: due.saturating_sub(1),
-                phase,
-            },
-            place,
-        )
+        Step::Keep(self.one_fewer(phase), place)
     }
 
     // A procedure byte.
@@ -168,34 +110,28 @@ impl Waiting {
         if self.due == 0 {
             return Step::Broken;
         }
-        match self.kind {
-            Kind::Inward => Step::Next(self.at(Phase::Sending(n))),
-            Kind::Outward | Kind::Repeated | Kind::Response => Step::Next(self.at(Phase::Receiving(
-                n,
-            ))),
-        }
+        let phase = match self.kind {
+            Kind::Inward => Phase::Sending(n),
+            Kind::Outward | Kind::Repeated | Kind::Response => Phase::Receiving(n),
+        };
+        Step::Next(self.at(phase))
     }
 
+    // The terminal in this phase.
     fn at(self, phase: Phase) -> Waiting
         ensures { result ≡ at_phase self phase }
     {
-        let Waiting {
-            header,
-            p3,
-            kind,
-            ne,
-            total,
-            due,
-            phase: _,
-        } = self;
+        Waiting { phase, ..self }
+    }
+
+    // The terminal in this phase, with one byte fewer due.
+    fn one_fewer(self, phase: Phase) -> Waiting
+        ensures { result ≡ one_fewer self phase }
+    {
         Waiting {
-            header,
-            p3,
-            kind,
-            ne,
-            total,
-            due,
+            due: self.due.saturating_sub(1),
             phase,
+            ..self
         }
     }
 
@@ -214,21 +150,12 @@ impl Waiting {
     fn hold(self, count: u8) -> Step
         ensures { result ≡ holds self self.kind count }
     {
-        let Waiting {
-            header,
-            p3: _,
-            kind,
-            ne,
-            total: _,
-            due: _,
-            phase: _,
-        } = self;
-        match kind {
+        match self.kind {
             Kind::Inward => Step::Held(
                 Holding {},
                 Token {
-                    cla: header.cla,
-                    ne,
+                    cla: self.header.cla,
+                    ne: self.ne,
                     held: wanted(count),
                 },
             ),
@@ -240,33 +167,12 @@ impl Waiting {
     fn repeat(self, count: u8) -> Step
         ensures { result ≡ repeats self self.kind count }
     {
-        let Waiting {
-            header,
-            p3: _,
-            kind,
-            ne,
-            total,
-            due,
-            phase: _,
-        } = self;
-        let n = count as usize;
-        match kind {
-            Kind::Outward => {
-                if due == total && n > 0 && n < total {
-                    Step::Next(Waiting {
-                        header,
-                        p3: count,
-                        kind: Kind::Repeated,
-                        ne,
-                        total: n,
-                        due: n,
-                        phase: Phase::Heading(0),
-                    })
-                } else {
-                    Step::Broken
-                }
-            }
-            Kind::Inward | Kind::Repeated | Kind::Response => Step::Broken,
+        let n = usize::from(count);
+        match self.kind {
+            Kind::Outward if self.due == self.total && n > 0 && n < self.total => Step::Next(
+                Waiting::heading(self.header, count, Kind::Repeated, self.ne, n),
+            ),
+            Kind::Inward | Kind::Outward | Kind::Repeated | Kind::Response => Step::Broken,
         }
     }
 
@@ -274,25 +180,16 @@ impl Waiting {
     fn end(self, sw1: u8, sw2: u8) -> Step
         ensures { result ≡ Rattle.t0.specs.Terminals.ends self sw1 sw2 }
     {
-        let Waiting {
-            header: _,
-            p3: _,
-            kind,
-            ne: _,
-            total,
-            due,
-            phase: _,
-        } = self;
         let Some(status) = Status::new(sw1, sw2) else {
             return Step::Broken;
         };
-        match kind {
+        match self.kind {
             Kind::Inward => Step::Done(Ready {}, 0, status),
             Kind::Outward | Kind::Repeated | Kind::Response => {
-                if due > 0 && due < total {
+                if self.due > 0 && self.due < self.total {
                     Step::Broken
                 } else {
-                    Step::Done(Ready {}, total.saturating_sub(due), status)
+                    Step::Done(Ready {}, self.place(), status)
                 }
             }
         }

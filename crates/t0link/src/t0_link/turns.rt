@@ -1,20 +1,19 @@
 ghost use Rattle.std.specs.Prelude.{◌≡◌, false};
-ghost use Rattle.t0link.specs.Links.{linked_by};
+ghost use Rattle.t0link.specs.Links.{linked_by, link_of};
 
 use crate::t0_link::T0Link;
 use apdu::{Application, Refusal, Status, judge};
 use link::Link;
-use t0::{Card, Settings, Settled, converse};
+use t0::{Card, Settings, WiredCard};
 use wire::{Line, Record, Traced};
 
 impl<A: Application, L: Line> T0Link<A, L> {
     // A link with this card's settings, application and line.
     pub fn new(settings: Settings, app: A, line: L) -> T0Link<A, L>
-        ensures { linked_by result.card.settings (L.Line.damage result.line) (A.Application.means.state result.card.app) result.lost ≡ linked_by settings (L.Line.damage line) (A.Application.means.state app) false }
+        ensures { link_of A.Application.means L.Line.damage result ≡ linked_by settings (L.Line.damage line) (A.Application.means.state app) false }
     {
         T0Link {
-            card: Card::new(app, settings),
-            line,
+            wired: WiredCard::new(Card::new(app, settings), line),
             lost: false,
         }
     }
@@ -23,7 +22,7 @@ impl<A: Application, L: Line> T0Link<A, L> {
 impl<A: Application, L: Line> Link for T0Link<A, L> {
     type App = A;
 
-    ghost meaning = { λ a l. linked_by l.card.settings (L.Line.damage l.line) (a.state l.card.app) l.lost };
+    ghost meaning = { λ a l. link_of a L.Line.damage l };
 
     fn send(
         &mut self,
@@ -38,22 +37,17 @@ impl<A: Application, L: Line> Link for T0Link<A, L> {
         // until the command is done
         self.lost = true;
         let mut staged = [0u8; 256];
-        match converse(&mut self.card, &mut self.line, command, &mut staged, trace) {
-            Settled::Done(count, status) => {
-                self.lost = false;
-                answer[0..count].copy_from_slice(&staged[0..count]);
-                Ok((count, status))
-            }
-            Settled::Broken => Err(Refusal::Protocol),
-            Settled::Lost => Err(Refusal::Lost),
-        }
+        let (count, status) = self.wired.converse(command, &mut staged, trace)?;
+        self.lost = false;
+        answer[0..count].copy_from_slice(&staged[0..count]);
+        Ok((count, status))
     }
 
     fn reset(&mut self, trace: &mut Record<'_, Traced>) -> Result<(), Refusal> {
         if self.lost {
             return Err(Refusal::Lost);
         }
-        self.card.reset();
+        self.wired.reset();
         Ok(())
     }
 }

@@ -1,5 +1,9 @@
-use Rattle.apps.proofs.FileTables.{Filled}
+use Rattle.std.proofs.Common.{◌≡◌, map, take, drop}
+use Rattle.apps.specs.FileTables.{file_from, all_fit}
 use Rattle.apps.proofs.files.Files.new.Given as goal
 
-abbrev pub invariant-loop-i : goal.invariant-loop-i
-invariant-loop-i l = Filled l.contents l.table l.i l.slots
+-- The files of the entries so far; the others fit if all do.
+abbrev pub invariant-loop-entry : goal.invariant-loop-entry
+invariant-loop-entry l =
+    (all_fit l.contents (drop l.entry-index l.table) ≡ all_fit l.contents l.table)
+    × (l.slots.items ≡ map (file_from l.contents) (take l.entry-index l.table))

@@ -1,39 +1,20 @@
-use Rattle.std.proofs.Common.{◌<◌, length, sym, ap, ◌∙◌, arith, rules}
-use Rattle.apdu.specs.Applications.{Outcome, opened}
-use Rattle.apps.specs.Files.{Shelf}
-use Rattle.apps.proofs.FileShelves.{current_below, read_missing, read_found}
+use Rattle.std.proofs.Common.{◌≡◌, List, get_or, ap, ◌∙◌}
+use Rattle.std.proofs.lemmas.Result.{err_from_is_err_and}
+use Rattle.apdu.specs.Applications.{Reply}
+use Rattle.apps.specs.Files.{File, Shelf, read_file}
+use Rattle.apps.proofs.FileShelves.{read_err, read_ok}
 use Rattle.apps.proofs.files.Files.read.Goals as goal
 
-pub returns-in_default : goal.returns-in_default
-returns-in_default c =
-    let r = sym (read_missing c.args.self.now c.args.p1 c.args.p2 c.args.body.now (omega arith) c.in_default.ensures) in
-    record {
-      state = ap (λ (o : Outcome Shelf). o.state) r;
-      answer = ap (λ (o : Outcome Shelf). opened o.reply.answer c.args.buffer.now) r;
-      count = ap (λ (o : Outcome Shelf). length o.reply.answer) r;
-      status = c.no_current_file.ensures ∙ ap (λ (o : Outcome Shelf). o.reply.status) r;
-    }
+pub returns-in_err-place-clause-reply : goal.returns-in_err-place-clause-reply
+returns-in_err-place-clause-reply c =
+    let p = err_from_is_err_and c.from_residual.result c.from_residual.ensures.1 in
+    rw (p.1, p.2) (read_err c.args.self.now c.args.header.p1 c.args.header.p2 c.args.body.now _ c.in_err-place.ensures)
 
-pub offset_bounds-self-place : goal.offset_bounds-self-place
-offset_bounds-self-place c =
-    let h = current_below c.args.self.now c.in-Some.place c.in-Some.ensures in
-    let b : c.in-Some.place < 8 = omega arith in
-    search rules
-
-pub listed : goal.listed
-listed c =
-    let h = current_below c.args.self.now c.in-Some.place c.in-Some.ensures in
-    search rules
-
-pub bounds-self-place : goal.bounds-self-place
-bounds-self-place c = omega (arith, current_below c.args.self.now c.in-Some.place c.in-Some.ensures)
-
-pub returns : goal.returns
-returns c =
-    let r = sym (read_found c.args.self.now c.args.p1 c.args.p2 c.args.body.now c.in-Some.place c.index-self-place.result (omega arith) c.in-Some.ensures) in
-    record {
-      state = ap (λ (o : Outcome Shelf). o.state) r;
-      answer = c.read.ensures.answer ∙ ap (λ (o : Outcome Shelf). opened o.reply.answer c.args.buffer.now) r;
-      count = c.read.ensures.count ∙ ap (λ (o : Outcome Shelf). length o.reply.answer) r;
-      status = c.read.ensures.status ∙ ap (λ (o : Outcome Shelf). o.reply.status) r;
-    }
+pub returns-clause-reply : goal.returns-clause-reply
+returns-clause-reply c =
+    let same : c.self.inside.slots.items ≡ c.args.self.now.files = ap (λ (s : Shelf). s.files) c.self.view_is in
+    let item : c.index-deref-place.result ≡ get_or c.args.self.now.files c.in_ok-place.place c.index-deref-place.result =
+    c.index-deref-place.is ∙ ap (λ (fs : List File). get_or fs c.in_ok-place.place c.index-deref-place.result) (c.deref.ensures.0 ∙ same) in
+    ap (λ (r : Reply). record { state = c.args.self.now; reply = r })
+    (c.read.ensures.reply ∙ ap (λ (f : File). read_file f c.in_ok-place.offset c.args.body.now) item)
+    ∙ read_ok c.args.self.now c.args.header.p1 c.args.header.p2 c.args.body.now c.in_ok-place.place c.in_ok-place.offset c.index-deref-place.result c.in_ok-place.ensures

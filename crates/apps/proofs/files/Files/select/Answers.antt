@@ -1,43 +1,27 @@
-use Rattle.std.proofs.Common.{◌≡◌, ◌<◌, length, sym, refl, ap, ◌∙◌, arith, rules}
-use Rattle.apdu.specs.Applications.{Outcome, opened}
-use Rattle.apps.specs.Files.{Shelf}
-use Rattle.apps.proofs.FileContents.{opened_by}
-use Rattle.apps.proofs.FileShelves.{place_below, select_missing, select_found}
+use Rattle.std.proofs.Common.{◌≡◌, List, Some, get_or, length, ap, ◌∙◌, rules}
+use Rattle.std.specs.Option.{ok_or}
+use Rattle.std.proofs.lemmas.Result.{err_from_is_err_and}
+use Rattle.apdu.specs.Statuses.{done}
+use Rattle.apps.specs.Files.{File, Shelf, description}
+use Rattle.apps.proofs.FileShelves.{select_none, select_some}
 use Rattle.apps.proofs.files.Files.select.Goals as goal
 
-pub returns-in_default-find : goal.returns-in_default-find
-returns-in_default-find c =
+pub returns-in_err-place : goal.returns-in_err-place
+returns-in_err-place c =
     let l : length c.args.body.now ≡ 2 = search rules in
-    let r = sym (select_missing c.args.self.now c.args.p1 c.args.p2 c.args.body.now c.if-p1-ne0.false c.if-p2-ne0.false l c.from_be_bytes-id.result c.from_be_bytes-id.ensures c.in_default-find.ensures) in
-    record {
-      state = ap (λ (o : Outcome Shelf). o.state) r;
-      answer = ap (λ (o : Outcome Shelf). opened o.reply.answer c.args.buffer.now) r;
-      count = ap (λ (o : Outcome Shelf). length o.reply.answer) r;
-      status = c.file_not_found.ensures ∙ ap (λ (o : Outcome Shelf). o.reply.status) r;
-    }
-
-pub offset_bounds-self-place : goal.offset_bounds-self-place
-offset_bounds-self-place c =
-    let h = place_below c.args.self.now c.from_be_bytes-id.result c.in-Some.place c.in-Some.ensures in
-    let b : c.in-Some.place < 8 = omega arith in
-    search rules
-
-pub listed : goal.listed
-listed c =
-    let h = place_below c.args.self.now c.from_be_bytes-id.result c.in-Some.place c.in-Some.ensures in
-    search rules
-
-pub bounds-self-place : goal.bounds-self-place
-bounds-self-place c = omega (arith, place_below c.args.self.now c.from_be_bytes-id.result c.in-Some.place c.in-Some.ensures)
+    let p = err_from_is_err_and c.from_residual.result c.from_residual.ensures.1 in
+    rw (p.1, p.2)
+    (select_none c.args.self.now c.args.header.p1 c.args.header.p2 c.args.body.now c.if-header-ne0.false c.if-header-ne0-2.false l c.from_be_bytes-id.result c.from_be_bytes-id.ensures c.find.result _ c.find.ensures (c.in_err-place.ensures.value ∙ ap (ok_or c.find.result) c.file_not_found.ensures))
 
 pub returns : goal.returns
 returns c =
     let l : length c.args.body.now ≡ 2 = search rules in
-    let e = select_found c.args.self.now c.args.p1 c.args.p2 c.args.body.now c.if-p1-ne0.false c.if-p2-ne0.false l c.from_be_bytes-id.result c.in-Some.place c.index-self-place.result c.from_be_bytes-id.ensures c.in-Some.ensures in
-    let r = sym e in
-    record {
-      state = ap (λ (o : Outcome Shelf). o.state) r;
-      answer = opened_by _ _ c.copy_from_slice.new.self c.args.buffer.now 10 (ap (λ (o : Outcome Shelf). o.reply) e) (c.copy_from_slice.ensures.after ∙ c.description.ensures) refl;
-      count = ap (λ (o : Outcome Shelf). length o.reply.answer) r;
-      status = c.done.ensures ∙ ap (λ (o : Outcome Shelf). o.reply.status) r;
-    }
+    let same : c.self.inside.slots.items ≡ c.args.self.now.files = ap (λ (s : Shelf). s.files) c.self.view_is in
+    let item : c.index-deref-place.result ≡ get_or c.args.self.now.files c.in_ok-place.place c.index-deref-place.result =
+    c.index-deref-place.is ∙ ap (λ (fs : List File). get_or fs c.in_ok-place.place c.index-deref-place.result) (c.deref.ensures.0 ∙ same) in
+    rw (same, c.description.ensures)
+    (ap
+    (λ (f : File).
+    record { state = record { files = c.args.self.now.files; current = Some c.from_be_bytes-id.result }; reply = record { answer = description f; status = done } })
+    item
+    ∙ select_some c.args.self.now c.args.header.p1 c.args.header.p2 c.args.body.now c.if-header-ne0.false c.if-header-ne0-2.false l c.from_be_bytes-id.result c.from_be_bytes-id.ensures c.find.result c.in_ok-place.place c.index-deref-place.result c.find.ensures (c.in_ok-place.ensures.value ∙ ap (ok_or c.find.result) c.file_not_found.ensures))

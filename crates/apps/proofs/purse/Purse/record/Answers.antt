@@ -1,79 +1,42 @@
-use Rattle.std.proofs.Common.{◌≡◌, Bool, true, cond, T, List, length, get_or, take, ℤ, pos, ◌+ℤ◌, sym, ap, ◌∙◌, subst, arith, w32, SFits, to_z, of_z, rules}
+use Rattle.std.proofs.Common.{◌≡◌, true, List, ◌++◌, [], ◌∷◌, length, get_or, pos, ◌+ℤ◌, ◌<◌, ◌≤◌, sym, ap, ◌∙◌, arith, w32, SFits, rules, ℤ}
 use Rattle.std.proofs.lemmas.Int.{to_z-of_z}
-use Rattle.apdu.specs.Statuses.{conditions_not_met}
-use Rattle.apps.specs.Purse.{balance, within, Sound, recorded, move_by, accepts, refuses}
-use Rattle.apps.specs.PurseState.{held}
-use Rattle.apps.specs.declared.purse.Purse.{Purse}
-use Rattle.apps.proofs.PurseBalances.{sound_recorded}
-use Rattle.apps.proofs.PursePlaces.{recorded_below, recorded_full, clear_below, clear_full, two_oldest_fit}
+use Rattle.std.proofs.lemmas.Bool.{eqb-true, eqb-false}
+use Rattle.apps.specs.Purse.{balance, within, recorded}
+use Rattle.apps.proofs.PursePlaces.{placed, placed_free, placed_full, two_oldest_fit, kept_recorded, moved}
 use Rattle.apps.proofs.purse.Purse.record.Goals as goal
-use Rattle.apps.proofs.purse.Purse.record.Goals.{After-slid-self}
+use Rattle.apps.proofs.purse.Purse.record.Goals.{After-push, then-is_full, else-is_full}
 
--- A movement that is allowed keeps a purse sound, and is what `move_by` records.
-allowed_at : (b m : ℤ) → SFits w32 m → true ≡ within (b +ℤ to_z w32 (of_z w32 m)) → true ≡ within (b +ℤ m)
-allowed_at b m f w = w ∙ ap (λ (n : ℤ). within (b +ℤ n)) (to_z-of_z w32 m f)
+pub overflow_add-deref_mut : goal.overflow_add-deref_mut
+overflow_add-deref_mut c =
+    let f : SFits w32 (get_or c.deref_mut.result.now 0 (pos 0)) = search rules in
+    let g : SFits w32 c.remove-oldest.result = search rules in
+    let e : length c.self.inside.movements.items ≡ 32 = eqb-true _ _ (sym c.if-is_full.ensures.value) in
+    let l : 2 ≤ length c.self.inside.movements.items = omega arith in
+    simp to_z-of_z (two_oldest_fit c.self.inside.movements.items _ _ _ l c.self.invariant.sound c.remove-oldest.ensures.value c.remove-oldest.ensures.items c.deref_mut.ensures.value)
 
-sound_held : (p : Purse) (m : ℤ) (after : List ℤ) → true ≡ within (balance (held p) +ℤ m) → after ≡ recorded (held p) m → Sound after
-sound_held p m after w e = subst Sound (sym e) (sound_recorded (held p) m p.sound (subst T w tt))
+placing : (c : After-push) → c.if-is_full.self-inside.movements.items ≡ placed c.self.inside.movements.items
+placing c = elim c.if-is_full.branch [
+  | then-is_full w ↦
+      let l : length c.self.inside.movements.items ≡ 32 = eqb-true _ _ (sym w.if-is_full.ensures.value) in
+      let f : SFits w32 (get_or w.deref_mut.result.now 0 (pos 0)) = search rules in
+      let g : SFits w32 w.remove-oldest.result = search rules in
+      let h : SFits w32 (get_or w.deref_mut.result.now 0 (pos 0) +ℤ w.remove-oldest.result) =
+      two_oldest_fit c.self.inside.movements.items _ _ _ (omega arith) c.self.invariant.sound w.remove-oldest.ensures.value w.remove-oldest.ensures.items w.deref_mut.ensures.value in
+      rw w.self-inside-is (simp to_z-of_z (placed_full _ _ _ _ l w.remove-oldest.ensures.value w.remove-oldest.ensures.items w.deref_mut.ensures.value))
+  | else-is_full w ↦ let l : length c.self.inside.movements.items < 32 = let n = eqb-false (length c.self.inside.movements.items) 32 (sym w.if-is_full.ensures.value) in let k = c.self.invariant.few in omega arith in rw w.self-inside-is (placed_free _ l)
+]
 
-moved : (ms after : List ℤ) (m : ℤ) → true ≡ within (balance ms +ℤ m) → after ≡ recorded ms m → after ≡ (move_by ms m).state
-moved ms after m w e =
-    subst (λ (b : Bool). after ≡ (cond b (accepts (recorded ms m)) (refuses ms conditions_not_met)).state) w e
+allowed : (c : After-push) → true ≡ within (balance c.args.self.now +ℤ c.args.movement)
+allowed c = simp (to_z-of_z w32 c.args.movement c.ranges.movement) at c.if-not-allows.ensures
 
--- A place is free.
+after : (c : After-push) → c.push.new.self.items ≡ recorded c.self.inside.movements.items c.args.movement
+after c =
+    simp (to_z-of_z w32 c.args.movement c.ranges.movement) at c.push.ensures.items ∙ ap (λ (ms : List ℤ). ms ++ c.args.movement ∷ []) (placing c)
+
 pub invariant_of-self : goal.invariant_of-self
-invariant_of-self c =
-    let f = c.ranges.movement in
-    let p : Purse = c.args.self.now in
-    let w : true ≡ within (balance (held p) +ℤ c.args.movement) = allowed_at _ _ f c.if-not-allows.ensures in
-    simp to_z-of_z
-    (record {
-      few = omega arith;
-      sound = sound_held p c.args.movement _ w (recorded_below p.movements p.count c.args.movement (search rules) c.if-self-lt-PLACES.true);
-      clear = clear_below p.movements p.count c.args.movement p.clear;
-    })
+invariant_of-self c = kept_recorded _ _ c.args.movement c.self.invariant (allowed c ∙ ap (λ (ms : List ℤ). within (balance ms +ℤ c.args.movement)) (sym c.self.view_is)) (after c)
 
-pub returns-then-self-lt-PLACES : goal.returns-then-self-lt-PLACES
-returns-then-self-lt-PLACES c =
-    let f = c.ranges.movement in
-    let p : Purse = c.args.self.now in
-    let w : true ≡ within (balance (held p) +ℤ c.args.movement) = allowed_at _ _ f c.if-not-allows.ensures in
-    let e : length p.movements ≡ 32 = search rules in
-    simp to_z-of_z
-    (record {
-      state = moved (held p) _ c.args.movement w (recorded_below p.movements p.count c.args.movement e c.if-self-lt-PLACES.true);
-      allowed = w;
-    })
-
--- No place is free.
-pub overflow_add-oldest : goal.overflow_add-oldest
-overflow_add-oldest c =
-    let f : SFits w32 (get_or c.args.self.now.movements 0 (pos 0)) = search rules in
-    let g : SFits w32 (get_or c.args.self.now.movements 1 (pos 0)) = search rules in
-    let e : length c.args.self.now.movements ≡ 32 = search rules in
-    simp to_z-of_z (two_oldest_fit c.args.self.now.movements c.args.self.now.count e (omega arith) c.args.self.now.sound)
-
-slid_recorded : (c : After-slid-self) → take c.args.self.now.count c.slid-self.result ≡ recorded (held c.args.self.now) c.args.movement
-slid_recorded c =
-    let f = c.ranges.movement in
-    let p : Purse = c.args.self.now in
-    let e : length p.movements ≡ 32 = search rules in
-    let x : SFits w32 (get_or p.movements 0 (pos 0)) = search rules in
-    let y : SFits w32 (get_or p.movements 1 (pos 0)) = search rules in
-    let z : SFits w32 (get_or p.movements 0 (pos 0) +ℤ get_or p.movements 1 (pos 0)) = two_oldest_fit p.movements p.count e (omega arith) p.sound in
-    recorded_full p.movements c.slid-self.result p.count c.args.movement e (omega arith) (simp to_z-of_z at c.slid-self.ensures)
-
-slid_allowed : (c : After-slid-self) → true ≡ within (balance (held c.args.self.now) +ℤ c.args.movement)
-slid_allowed c = allowed_at _ _ c.ranges.movement c.if-not-allows.ensures
-
-pub invariant_of-self-else-self-lt-PLACES : goal.invariant_of-self-else-self-lt-PLACES
-invariant_of-self-else-self-lt-PLACES c = record {
-  few = c.args.self.now.few;
-  sound = sound_held c.args.self.now c.args.movement _ (slid_allowed c) (slid_recorded c);
-  clear = clear_full c.slid-self.result c.args.self.now.count (search rules) (omega arith);
-}
-
-pub returns-else-self-lt-PLACES : goal.returns-else-self-lt-PLACES
-returns-else-self-lt-PLACES c =
-    let d = (goal.at.returns-else-self-lt-PLACES c).After-slid-self in
-    record { state = moved (held c.args.self.now) _ c.args.movement (slid_allowed d) (slid_recorded d); allowed = slid_allowed d }
+pub returns : goal.returns
+returns c =
+    let d = (goal.at.returns c).After-push in
+    moved c.args.self.now _ c.args.movement _ (allowed d) (after d ∙ ap (λ (ms : List ℤ). recorded ms c.args.movement) c.self.view_is) c.balance.ensures.value

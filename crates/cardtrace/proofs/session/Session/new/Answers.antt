@@ -1,6 +1,5 @@
-use Rattle.std.proofs.Common.{rules}
 use Rattle.cardtrace.proofs.Stepping.{traces_scripts}
 use Rattle.cardtrace.proofs.session.Session.new.Goals as goal
 
-pub returns : goal.returns
-returns c = record { made = search rules; whole = traces_scripts }
+pub returns-clause-whole : goal.returns-clause-whole
+returns-clause-whole c = traces_scripts

@@ -1,12 +1,17 @@
-use Rattle.std.proofs.Common.{sym, rules}
-use Rattle.script.proofs.Splits.{split_more, split_parts, split_all}
+use Rattle.std.proofs.Common.{◌≡◌, ap, sym, ◌∙◌, rules, tests}
+use Rattle.std.specs.List.{position}
+use Rattle.std.specs.Option.{option_map}
+use Rattle.std.proofs.lemmas.Iterator.{YieldsList-from_slice}
+use Rattle.std.proofs.lemmas.Iterator.Search.{position_from_yields_List}
+use Rattle.script.proofs.Splits.{comma, parts, split_position, split_parts}
 use Rattle.script.proofs.line.field.cut.Goals as goal
 
-pub returns-then-b-eq44 : goal.returns-then-b-eq44
-returns-then-b-eq44 c = split_parts c.args.text.now c.loop-i.i (search rules) (search rules) c.loop-i.invariant
-
-pub loop-i-preserved : goal.loop-i-preserved
-loop-i-preserved c = split_more c.args.text.now c.loop-i.i (search rules) (search rules) c.loop-i.invariant
+pub returns-in_err-comma : goal.returns-in_err-comma
+returns-in_err-comma c =
+    let e : c.position.result ≡ position comma c.args.text.now = position_from_yields_List comma _ _ c.position.result c.position.ensures.ran (YieldsList-from_slice c.args.text.now cc) (λ x b q k. search (rules, tests)) in
+    rw c.from_residual.ensures (sym (split_position c.args.text.now c.position.result e ∙ ap (option_map (parts c.args.text.now)) c.in_err-comma.was))
 
 pub returns : goal.returns
-returns c = sym (split_all c.args.text.now c.loop-i.i (search rules) c.loop-i.invariant)
+returns c =
+    let e : c.position.result ≡ position comma c.args.text.now = position_from_yields_List comma _ _ c.position.result c.position.ensures.ran (YieldsList-from_slice c.args.text.now cc) (λ x b q k. search (rules, tests)) in
+    split_parts c.args.text.now c.position.result c.in_ok-comma.comma e c.in_ok-comma.was

@@ -1,25 +1,25 @@
-use Rattle.std.proofs.Common.{sym, ◌∙◌}
-use Rattle.script.proofs.Numbers.{reading_more, reading_odd, reading_high, reading_all, number_refused, number_low, number_fine}
+use Rattle.std.proofs.Common.{◌≡◌, ◌&&◌, ◌<◌, cond, leb, Bool, true, false, refl, Some, None, sym, ◌∙◌, rules}
+use Rattle.std.specs.Bool.{then_some}
+use Rattle.script.proofs.Numbers.{le_cmp, parsed, unparsed, refused_utf8}
 use Rattle.script.proofs.line.field.read_number.Goals as goal
 
-pub returns-then-not-is_digit : goal.returns-then-not-is_digit
-returns-then-not-is_digit c =
-    let h = reading_odd c.args.high c.loop-b.n c.loop-b.b-index c.args.text.now c.loop-b-test.true (sym c.if-not-is_digit.ensures) in
-    sym (number_refused c.args.low c.args.high c.args.text.now (sym c.loop-b.invariant.1 ∙ h))
+pub returns-in_err-ok : goal.returns-in_err-ok
+returns-in_err-ok c =
+    absurd (refused_utf8 _ _ c.args.text.now c.from_utf8.result (sym c.if-not-is_numeral.ensures) c.from_utf8.ensures.cases (sym c.ok.ensures.value ∙ c.in_err-ok.was))
 
-pub returns-then-n-high : goal.returns-then-n-high
-returns-then-n-high c =
-    let h = reading_high c.args.high c.loop-b.n c.loop-b.b-index c.args.text.now c.loop-b-test.true (sym c.if-not-is_digit.ensures) c.if-n-high.true in
-    sym (number_refused c.args.low c.args.high c.args.text.now (sym c.loop-b.invariant.1 ∙ h))
-
-pub loop-b-preserved : goal.loop-b-preserved
-loop-b-preserved c =
-    (c.if-n-high.false, sym (reading_more c.args.high c.loop-b.n c.loop-b.b-index c.args.text.now c.loop-b-test.true (sym c.if-not-is_digit.ensures) c.if-n-high.false) ∙ c.loop-b.invariant.1)
-
-pub returns-then-n-low : goal.returns-then-n-low
-returns-then-n-low c =
-    number_low c.args.low c.args.high c.loop-b.n c.args.text.now (sym c.if-not-is_well_led.ensures) (sym c.loop-b.invariant.1 ∙ reading_all c.args.high c.loop-b.n c.loop-b.b-index c.args.text.now c.loop-b-test.false) c.if-n-low.true
+pub returns-in_err-number : goal.returns-in_err-number
+returns-in_err-number c =
+    let h : c.args.high < 65536 = search rules in
+    let t : c.in_ok-ok.field-0.now ≡ c.args.text.now = search rules in
+    c.from_residual-in_err-number.ensures ∙ sym (unparsed c.args.low c.args.high c.args.text.now c.in_ok-ok.field-0.now c.parse.result (sym c.if-not-is_numeral.ensures) t c.parse.ensures.value.0 h (sym c.ok-2.ensures.value ∙ c.in_err-number.was))
 
 pub returns : goal.returns
 returns c =
-    number_fine c.args.low c.args.high c.loop-b.n c.args.text.now (sym c.if-not-is_well_led.ensures) (sym c.loop-b.invariant.1 ∙ reading_all c.args.high c.loop-b.n c.loop-b.b-index c.args.text.now c.loop-b-test.false) c.if-n-low.false
+    let t : c.in_ok-ok.field-0.now ≡ c.args.text.now = search rules in
+    let n = parsed c.args.low c.args.high c.args.text.now c.in_ok-ok.field-0.now c.parse.result c.in_ok-number.number (sym c.if-not-is_numeral.ensures) t c.parse.ensures.value.0 (sym c.ok-2.ensures.value ∙ c.in_ok-number.was) in
+    let b : c.contains.result ≡ leb c.args.low c.in_ok-number.number && leb c.in_ok-number.number c.args.high = c.contains.ensures.value ∙ rw (c.new.ensures.start, c.new.ensures.end, c.new.ensures.exhausted, le_cmp c.args.low c.in_ok-number.number, le_cmp c.in_ok-number.number c.args.high) refl in
+    c.then_some.ensures ∙ rw (b, n) (by (leb c.args.low c.in_ok-number.number && leb c.in_ok-number.number c.args.high))
+  where
+    by : (t : Bool) → then_some t c.in_ok-number.number ≡ cond t (Some c.in_ok-number.number) None
+    by true = refl
+    by false = refl

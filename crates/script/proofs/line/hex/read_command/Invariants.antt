@@ -1,6 +1,10 @@
-use Rattle.std.proofs.Common.{◌≡◌, ◌*◌, take}
-use Rattle.script.specs.Hex.{pairs, opened}
+use Rattle.std.proofs.Common.{◌≡◌, ◌≤◌, length}
+use Rattle.script.specs.Hex.{command_of}
+use Rattle.script.proofs.Commands.{continued}
 use Rattle.script.proofs.line.hex.read_command.Given as goal
 
-abbrev pub invariant-loop-i : goal.invariant-loop-i
-invariant-loop-i l = l.memory ≡ opened (pairs (take (2 * l.i) l.text)) l.initial.memory
+abbrev pub invariant-loop-rest : goal.invariant-loop-rest
+invariant-loop-rest l = (length l.command.items ≤ 300) × (command_of l.digits ≡ continued l.command.items l.rest)
+
+abbrev pub decreases-loop-rest : goal.decreases-loop-rest
+decreases-loop-rest l = length l.rest

@@ -1,6 +1,0 @@
-use Rattle.std.proofs.Common.{sym}
-use Rattle.std.proofs.lemmas.List.{get_or_past}
-use Rattle.t0.proofs.talk.speak.data_byte.Goals as goal
-
-pub returns-else-place-body : goal.returns-else-place-body
-returns-else-place-body c = sym (get_or_past c.args.body.now c.args.place 0 c.if-place-body.false)
