@@ -1,4 +1,4 @@
-ghost use Rattle.std.specs.Prelude.{◌≡◌, ◌≤◌, [], length};
+ghost use Rattle.std.specs.Prelude.{◌≡◌, ◌≤◌, [], length, if◌then◌else◌};
 ghost use Rattle.apdu.specs.Applications.{does, opened};
 ghost use Rattle.apdu.specs.Judging.{parts};
 ghost use Rattle.link.specs.Direct.{directly, over, nearer};
@@ -29,11 +29,9 @@ impl<A: Application> DirectCard<A> {
     pub fn send(&mut self, command: &[u8], answer: &mut [u8]) -> Result<(usize, Status), Refusal>
         ensures { Sends (directly A.Application.means (meant A.Application.means self.old) (send command.now) answer.old) (meant A.Application.means self.new) answer.new result }
     {
-        let lost = self.count_turn();
+        let carried = self.count_turn();
         let command = judge(command, answer.len())?;
-        if lost {
-            return Err(Refusal::Lost);
-        }
+        carried?;
         Ok(run_command(&mut self.app, command, answer))
     }
 
@@ -41,9 +39,7 @@ impl<A: Application> DirectCard<A> {
     pub fn reset(&mut self) -> Result<(), Refusal>
         ensures { Resets (directly A.Application.means (meant A.Application.means self.old) restart []) (meant A.Application.means self.new) result }
     {
-        if self.count_turn() {
-            return Err(Refusal::Lost);
-        }
+        self.count_turn()?;
         self.app.reset();
         Ok(())
     }
@@ -62,18 +58,18 @@ impl<A: Application> DirectCard<A> {
         }
     }
 
-    // Counts a turn towards the loss that was told; whether it has come.
-    fn count_turn(&mut self) -> bool
-        ensures lost { result ≡ over self.old.told }
+    // Counts a turn towards the loss that was told; refuses it where that has come.
+    fn count_turn(&mut self) -> Result<(), Refusal>
+        ensures lost { result ≡ (if over self.old.told then Err Refusal.Lost else Ok tt) }
         ensures told { self.new.told ≡ nearer self.old.told }
         ensures app { self.new.app ≡ self.old.app }
     {
         match self.told {
-            None => false,
-            Some(0) => true,
+            None => Ok(()),
+            Some(0) => Err(Refusal::Lost),
             Some(turns) => {
                 self.told = Some(turns - 1);
-                false
+                Ok(())
             }
         }
     }

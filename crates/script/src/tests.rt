@@ -4,18 +4,18 @@ use crate::trace::{Outcome, TurnLabel, bad_line, character_line, result_line, tu
 use apdu::{Refusal, Status};
 use wire::{Sender, Traced};
 
-// How many lines are read, and the number of the bad line, 0 for none.
+// How many lines are read, and the number of the bad line, if there is one.
 #[derive(Clone, Copy)]
 struct Told {
     good: u64,
-    bad: u64,
+    bad: Option<u64>,
 }
 
 fn note_step(told: &mut Told, step: Result<Option<Line>, reader::Refusal>) {
     match step {
         Ok(None) => {}
         Ok(Some(_)) => told.good = told.good.saturating_add(1),
-        Err(reader::Refusal::BadLine { line }) => told.bad = line,
+        Err(reader::Refusal::BadLine { line }) => told.bad = Some(line),
     }
 }
 
@@ -27,7 +27,7 @@ fn feed(reader: &mut Reader, told: &mut Told, bytes: &[u8]) {
 
 fn tell(script: &[u8]) -> Told {
     let mut reader = Reader::new();
-    let mut told = Told { good: 0, bad: 0 };
+    let mut told = Told { good: 0, bad: None };
     feed(&mut reader, &mut told, script);
     note_step(&mut told, reader.finish());
     told
@@ -35,35 +35,35 @@ fn tell(script: &[u8]) -> Told {
 
 #[test]
 fn tells_scripts(rt: HostRuntime) {
-    let cases: [(&[u8], u64, u64); 24] = [
-        (b"", 0, 0),
-        (b"link,0,1,254,15,w", 1, 0),
+    let cases: [(&[u8], u64, Option<u64>); 24] = [
+        (b"", 0, None),
+        (b"link,0,1,254,15,w", 1, None),
         (
             b"link,1,254,1,0,b\ndamage,0\ndamage,65535\nsend,0,00A40000\nreset,255\nsend,1,\n",
             6,
-            0,
+            None,
         ),
-        (b"\n", 0, 1),
-        (b"send,1,00\n", 0, 1),
-        (b"link,2,1,1,0,w\n", 0, 1),
-        (b"link,0,0,1,0,w\n", 0, 1),
-        (b"link,0,1,255,0,w\n", 0, 1),
-        (b"link,0,1,1,16,w\n", 0, 1),
-        (b"link,0,1,1,0,W\n", 0, 1),
-        (b"link,0,1,1,0\n", 0, 1),
-        (b"link,0,1,1,0,w,\n", 0, 1),
-        (b"link,0,01,1,0,w\n", 0, 1),
-        (b"link,0,,1,0,w\n", 0, 1),
-        (b"link, 0,1,1,0,w\n", 0, 1),
-        (b"link,0,1,1,0,w\r\n", 0, 1),
-        (b"link,0,1,1,0,w\nlink,0,1,1,0,w\n", 1, 2),
-        (b"link,0,1,1,0,w\ndamage,5\ndamage,5\n", 2, 3),
-        (b"link,0,1,1,0,w\ndamage,65536\n", 1, 2),
-        (b"link,0,1,1,0,w\nreset,1\ndamage,5\nreset,1\n", 2, 3),
-        (b"link,0,1,1,0,w\nsend,1,0\n", 1, 2),
-        (b"link,0,1,1,0,w\nsend,1,0a\n", 1, 2),
-        (b"link,0,1,1,0,w\nsend,1\n", 1, 2),
-        (b"link,0,1,1,0,w\nsend,256,00\nreset,1", 1, 2),
+        (b"\n", 0, Some(1)),
+        (b"send,1,00\n", 0, Some(1)),
+        (b"link,2,1,1,0,w\n", 0, Some(1)),
+        (b"link,0,0,1,0,w\n", 0, Some(1)),
+        (b"link,0,1,255,0,w\n", 0, Some(1)),
+        (b"link,0,1,1,16,w\n", 0, Some(1)),
+        (b"link,0,1,1,0,W\n", 0, Some(1)),
+        (b"link,0,1,1,0\n", 0, Some(1)),
+        (b"link,0,1,1,0,w,\n", 0, Some(1)),
+        (b"link,0,01,1,0,w\n", 0, Some(1)),
+        (b"link,0,,1,0,w\n", 0, Some(1)),
+        (b"link, 0,1,1,0,w\n", 0, Some(1)),
+        (b"link,0,1,1,0,w\r\n", 0, Some(1)),
+        (b"link,0,1,1,0,w\nlink,0,1,1,0,w\n", 1, Some(2)),
+        (b"link,0,1,1,0,w\ndamage,5\ndamage,5\n", 2, Some(3)),
+        (b"link,0,1,1,0,w\ndamage,65536\n", 1, Some(2)),
+        (b"link,0,1,1,0,w\nreset,1\ndamage,5\nreset,1\n", 2, Some(3)),
+        (b"link,0,1,1,0,w\nsend,1,0\n", 1, Some(2)),
+        (b"link,0,1,1,0,w\nsend,1,0a\n", 1, Some(2)),
+        (b"link,0,1,1,0,w\nsend,1\n", 1, Some(2)),
+        (b"link,0,1,1,0,w\nsend,256,00\nreset,1", 1, Some(2)),
     ];
     for (script, good, bad) in cases {
         let told = tell(script);
@@ -76,7 +76,7 @@ fn tells_scripts(rt: HostRuntime) {
 #[test]
 fn keeps_limits(rt: HostRuntime) {
     let mut reader = Reader::new();
-    let mut told = Told { good: 0, bad: 0 };
+    let mut told = Told { good: 0, bad: None };
     feed(&mut reader, &mut told, b"link,0,1,1,0,w\n");
     for k in 10..75u8 {
         feed(&mut reader, &mut told, b"damage,");
@@ -88,17 +88,17 @@ fn keeps_limits(rt: HostRuntime) {
     }
     feed(&mut reader, &mut told, b"reset,1\n");
     assert_eq!(rt; told.good, 65);
-    assert_eq!(rt; told.bad, 66);
+    assert_eq!(rt; told.bad, Some(66));
     let mut longest = Reader::new();
-    let mut got = Told { good: 0, bad: 0 };
+    let mut got = Told { good: 0, bad: None };
     feed(&mut longest, &mut got, b"link,0,1,1,0,w\nsend,255,");
     for _ in 0..600u16 {
         feed(&mut longest, &mut got, b"0");
     }
-    assert_eq!(rt; got.bad, 0);
+    assert_eq!(rt; got.bad, None);
     feed(&mut longest, &mut got, b"0");
     assert_eq!(rt; got.good, 1);
-    assert_eq!(rt; got.bad, 2);
+    assert_eq!(rt; got.bad, Some(2));
 }
 
 fn is_line(out: &[u8], count: usize, line: &[u8]) -> bool {
