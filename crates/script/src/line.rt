@@ -1,4 +1,4 @@
-use t0::Style;
+pub use t0::Style;
 
 // The transmission protocol of the link.
 #[derive(Clone, Copy, Debug, PartialEq, Eq)]
@@ -17,7 +17,7 @@ pub struct Settings {
     pub style: Style,
 }
 
-// A line of a script. The command of a send lies apart, in a memory of 300 bytes, of which it takes the first `length`.
+// A line of a script. The command of a send, of `length` bytes, lies apart.
 #[derive(Clone, Copy, Debug, PartialEq, Eq)]
 pub enum Line {
     Link(Settings),

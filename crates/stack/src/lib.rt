@@ -1,5 +1,5 @@
 // The stack as a whole: the worked examples of commands and applications, proved from the definitions as one list, and tests
-// of applications behind the direct card.
+// of applications behind the direct card and over T=0.
 #![tactic(auto)]
 
 ghost use Rattle.stack.specs.Examples.{WorkedExamples};

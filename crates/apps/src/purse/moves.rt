@@ -1,5 +1,5 @@
 ghost use Rattle.std.specs.Prelude.{◌≡◌, ◌≤◌, [], pos, ◌+ℤ◌};
-ghost use Rattle.apps.specs.Purse.{four_bytes, balance, limit, within, move_by, JoiningKeeps, CreditAdds, DebitTakes, RefusalKeeps};
+ghost use Rattle.apps.specs.Purse.{four_bytes, balance, limit, within, move_by, Kept, JoiningKeeps, CreditAdds, DebitTakes, RefusalKeeps};
 ghost use Rattle.apps.specs.Replies.{gives};
 
 use crate::purse::{LIMIT, Purse};
@@ -16,12 +16,14 @@ impl Purse {
         }
     }
 
-    // The balance: the sum of the movements, which never leaves its limits. The other clauses are the laws of the purse:
+    // The balance: the sum of the movements, which never leaves its limits; they are at most 32, and it lay in its limits after
+    // each of them. The other clauses are the laws of the purse:
     // joining movements keeps the balance, an accepted credit adds its amount to it, an accepted debit takes its amount off,
     // and a refused command changes nothing.
     pub fn balance(&self) -> u32
         ensures value { pos result ≡ balance self.now }
         ensures limits { result ≤ limit }
+        ensures kept { Kept self.now }
         ensures joining { JoiningKeeps }
         ensures credit { CreditAdds }
         ensures debit { DebitTakes }
