@@ -1,5 +1,5 @@
 use crate::line::{Line, print_line, read_line};
-use crate::reader::{Reader, Refusal};
+use crate::reader::{self, Reader};
 use crate::trace::{Outcome, TurnLabel, bad_line, character_line, result_line, turn_line};
 use apdu::{Refusal, Status};
 use wire::{Sender, Traced};
@@ -11,11 +11,11 @@ struct Told {
     bad: u64,
 }
 
-fn note_step(told: &mut Told, step: Result<Option<Line>, Refusal>) {
+fn note_step(told: &mut Told, step: Result<Option<Line>, reader::Refusal>) {
     match step {
         Ok(None) => {}
         Ok(Some(_)) => told.good = told.good.saturating_add(1),
-        Err(Refusal::BadLine { line }) => told.bad = line,
+        Err(reader::Refusal::BadLine { line }) => told.bad = line,
     }
 }
 
