@@ -1,6 +1,7 @@
 use Rattle.std.specs.Prelude.{ℕ, List, []}
 use Rattle.apdu.specs.Applications.{App}
 use Rattle.wire.specs.Lines.{Damage}
+use Rattle.t0.specs.declared.card.Card as code
 use Rattle.t0.specs.declared.settings.Settings.{Settings}
 use Rattle.t0.specs.declared.talk.WiredCard.{WiredCard}
 use Rattle.t0.specs.declared.terminal.Token.{Token}
@@ -15,9 +16,13 @@ pub record Wired (S : Type 0) : Type 0 where
   pub card : Card S
   pub coming : Damage
 
--- What a value of the code means, where this is what the application means and how the line damages.
+-- What a card and a line of the code mean together, where this is what the application means and how the line damages.
+abbrev pub wiring : {V M : Type 0} (app : App V) → (M → Damage) → code.Card V → M → Wired app.State
+wiring app damage card line = record { settings = card.settings; card = meant app card; coming = damage line }
+
+-- What a wired card of the code means.
 abbrev pub wired_of : {V M : Type 0} (app : App V) → (M → Damage) → WiredCard V M → Wired app.State
-wired_of app damage w = record { settings = w.card.settings; card = meant app w.card; coming = damage w.line }
+wired_of app damage w = wiring app damage w.card w.line
 
 -- A warm reset of the card; nothing crosses the line.
 abbrev pub after_reset : {V : Type 0} (app : App V) → Wired app.State → Wired app.State

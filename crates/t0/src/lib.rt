@@ -12,5 +12,5 @@ mod terminal;
 pub use apdu::Header;
 pub use card::Card;
 pub use settings::{Settings, Style};
-pub use talk::{Failure, WiredCard};
+pub use talk::{Failure, WiredCard, converse};
 pub use terminal::{Holding, Kind, Phase, Ready, Step, Token, Waiting, Want};

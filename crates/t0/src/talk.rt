@@ -30,3 +30,5 @@ mod failing;
 mod speak;
 mod whole;
 mod wiring;
+
+pub use whole::converse;
