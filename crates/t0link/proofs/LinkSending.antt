@@ -16,7 +16,10 @@ use Rattle.link.specs.Meaning.{Asked, command, Linked, carried, before, after, s
 use Rattle.link.specs.Results.{LinkSends, LinkResets}
 use Rattle.link.specs.Turns.{Did, gives, denied}
 use Rattle.t0.specs.declared.settings.Settings.{Settings}
-use Rattle.t0.specs.Cards.{nothing}
+use Rattle.t0.specs.Cards as cards
+use Rattle.t0.specs.Cards.{nothing, card_reset}
+use Rattle.t0.specs.CardValues.{meant}
+use Rattle.t0.specs.declared.card.Card.{Card}
 use Rattle.t0.specs.Delivery.{Delivered, deliver}
 use Rattle.t0.specs.Wired.{Wired, wired_of, after_reset}
 use Rattle.t0link.specs.Resting.{resting}
@@ -100,6 +103,10 @@ module _ {V M : Type 0} (app : App V) (damage : M → Damage) (w next : WiredCar
   reset_rests =
       ap (λ (k : Bool). k || resting next.card) eb
       ∙ so_rests app next.card (app.resets (app.state w.card.app)) nothing (ap (λ (k : Wired app.State). k.card) e) tt
+
+-- A card that was reset has the application's state after a reset.
+pub reset_state : {V : Type 0} (app : App V) (c d : Card V) → meant app d ≡ card_reset app (meant app c) → app.state d.app ≡ app.resets (app.state c.app)
+reset_state app c d e = ap (λ (k : cards.Card app.State). k.state) e
 
 -- The answer bytes that opened the staging, put before the rest of the answer buffer.
 pub staged_out : (part zeros staged got whole : List ℕ) (n : ℕ) → n ≡ length part → staged ≡ opened part zeros → got ≡ take (n - 0) staged → got ++ drop (n - 0) whole ≡ opened part whole
