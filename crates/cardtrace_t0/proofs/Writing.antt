@@ -4,18 +4,19 @@ use Rattle.apdu.specs.declared.refusal.Refusal.{Refusal}
 use Rattle.apdu.specs.declared.status.Status.{Status}
 use Rattle.link.specs.Results.{turn_gave}
 use Rattle.script.specs.Traces.{character_line, turn_line, outcome_of, data_of}
+use Rattle.wire.specs.Senders.{sender_of}
 use Rattle.wire.specs.declared.traced.Traced.{Traced}
 use Rattle.cardtrace_t0.specs.Traces.{character_lines, entry_line}
 
 lines_append : (turn : ℕ) (cs ds : List Traced) → character_lines turn (cs ++ ds) ≡ character_lines turn cs ++ character_lines turn ds
 lines_append turn [] ds = refl
 lines_append turn (c ∷ cs) ds =
-    ap (λ (t : List ℕ). character_line turn c.sender c.byte c.damaged ++ t) (lines_append turn cs ds)
-    ∙ sym (append_assoc (character_line turn c.sender c.byte c.damaged) (character_lines turn cs) (character_lines turn ds))
+    ap (λ (t : List ℕ). character_line turn (sender_of c) c.byte c.damaged ++ t) (lines_append turn cs ds)
+    ∙ sym (append_assoc (character_line turn (sender_of c) c.byte c.damaged) (character_lines turn cs) (character_lines turn ds))
 
 -- One character more.
 pub lines_more : (turn : ℕ) (cs : List Traced) (i : ℕ) (d : Traced) (items old before line : List ℕ) → i < length cs → items ≡ before ++ line
-    → line ≡ character_line turn (get_or cs i d).sender (get_or cs i d).byte (get_or cs i d).damaged
+    → line ≡ character_line turn (sender_of (get_or cs i d)) (get_or cs i d).byte (get_or cs i d).damaged
     → before ≡ old ++ character_lines turn (take i cs)
     → items ≡ old ++ character_lines turn (take (i + 1) cs)
 lines_more turn cs i d items old before line h e el f =

@@ -7,6 +7,7 @@ use Rattle.script.specs.Lines as lines
 use Rattle.script.specs.Scripts.{Script, following}
 use Rattle.script.specs.Traces.{character_line, turn_line, bad_line}
 use Rattle.script.specs.declared.trace.Outcome.TheVariants.{Status, Reset, Refusal}
+use Rattle.wire.specs.Senders.{sender_of}
 use Rattle.wire.specs.declared.traced.Traced.{Traced}
 use Rattle.cardtrace_t0.specs.Cards.{link_said}
 
@@ -17,7 +18,7 @@ free = replicate 256 0
 -- The lines of the characters of a turn.
 abbrev pub character_lines : ℕ → List Traced → List ℕ
 character_lines turn [] = []
-character_lines turn (c ∷ cs) = character_line turn c.sender c.byte c.damaged ++ character_lines turn cs
+character_lines turn (c ∷ cs) = character_line turn (sender_of c) c.byte c.damaged ++ character_lines turn cs
 
 -- The line of a turn, by what it gave.
 abbrev pub entry_line : ℕ → ℕ → Gave → List ℕ

@@ -1,4 +1,4 @@
-use Rattle.std.specs.Prelude.{◌≡◌, ℕ, zero, suc, ◌+◌, false, List, [], ◌∷◌, Some, None}
+use Rattle.std.specs.Prelude.{◌≡◌, ℕ, zero, suc, ◌+◌, true, false, List, [], ◌∷◌, Some, None}
 use Rattle.apdu.specs.Applications.{App}
 use Rattle.apdu.specs.Statuses.{done}
 use Rattle.link.specs.Direct.{direct}
@@ -10,7 +10,6 @@ use Rattle.link.specs.Rows.{rows}
 use Rattle.link.specs.Turns.{send, restart, Gave, gives, restarted, denied, Entry, Call, alone, run, Went, journal, answers, whole_trace}
 use Rattle.link.specs.declared.row.Row.{Row}
 use Rattle.link.specs.declared.turn.Turn.{Turn}
-use Rattle.wire.specs.declared.traced.Sender.TheVariants as by
 
 -- An application that counts its runs, and answers its count and 7 with status 9000; a reset begins at 0.
 abbrev pub counter : App ℕ
@@ -73,7 +72,7 @@ abbrev pub fickle : List Asked → List Crossing
 fickle [] = []
 fickle (a ∷ []) = record { characters = []; fate = carried } ∷ []
 fickle (a ∷ b ∷ more) =
-    record { characters = record { sender = by.Card; byte = 1; damaged = false } ∷ []; fate = carried } ∷ record { characters = []; fate = carried } ∷ []
+    record { characters = record { by_card = true; byte = 1; damaged = false } ∷ []; fate = carried } ∷ record { characters = []; fate = carried } ∷ []
 
 abbrev pub link_fickle : Linked ℕ
 link_fickle = record { state = 5; lost = false; coming = fickle }
@@ -117,4 +116,4 @@ pub record Examples : Type 0 where
   pub odd_rows : rows 0 (turns_over link_quiet odd_turns) ≡ row 0 0x90 0x00 0 2 ∷ row 1 0 0 2 0 ∷ row 1 0 0 2 0 ∷ row 16 0 0 2 0 ∷ []
   -- the fickle link told of one character, and none crossed
   pub fickle_crossed : whole_trace (turns_over link_fickle two_resets) ≡ []
-  pub fickle_told : crossings_trace (fickle (asked_of counter 5 false (turns_over link_fickle two_resets))) ≡ record { sender = by.Card; byte = 1; damaged = false } ∷ []
+  pub fickle_told : crossings_trace (fickle (asked_of counter 5 false (turns_over link_fickle two_resets))) ≡ record { by_card = true; byte = 1; damaged = false } ∷ []

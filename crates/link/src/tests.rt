@@ -9,7 +9,7 @@ use crate::row::Row;
 use crate::running::run;
 use crate::turn::{Order, Turn};
 use apdu::{Application, Header, Refusal, Status};
-use wire::{Record, Sender, Traced};
+use wire::{Record, Traced};
 
 // Counts its runs, and answers its count and 7 with status 9000; a reset begins at 0.
 #[derive(Drop)]
@@ -47,7 +47,7 @@ const NO_ROW: Row = Row {
 };
 
 const NO_CHARACTER: Traced = Traced {
-    sender: Sender::Terminal,
+    by_card: false,
     byte: 0,
     damaged: false,
 };

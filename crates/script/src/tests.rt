@@ -2,7 +2,7 @@ use crate::line::{Line, print_line, read_line};
 use crate::reader::{self, Reader};
 use crate::trace::{Outcome, TurnLabel, bad_line, character_line, result_line, turn_line};
 use apdu::{Refusal, Status};
-use wire::{Sender, Traced};
+use wire::Traced;
 
 // How many lines are read, and the number of the bad line, if there is one.
 #[derive(Clone, Copy)]
@@ -152,7 +152,7 @@ fn writes_traces(rt: HostRuntime) {
         character_line(
             1,
             Traced {
-                sender: Sender::Terminal,
+                by_card: false,
                 byte: 0x2f,
                 damaged: true
             }
@@ -164,7 +164,7 @@ fn writes_traces(rt: HostRuntime) {
         character_line(
             u64::MAX,
             Traced {
-                sender: Sender::Card,
+                by_card: true,
                 byte: 0x0a,
                 damaged: false
             }

@@ -13,6 +13,7 @@ use Rattle.t0.specs.declared.settings.Settings.{Settings}
 use Rattle.t0.specs.declared.settings.Style.TheVariants.{Whole}
 use Rattle.t0link.specs.Links.{linked_by}
 use Rattle.wire.specs.declared.traced.Traced.{Traced}
+use Rattle.wire.specs.Senders.{is_card}
 use Rattle.wire.specs.declared.traced.Sender.{Sender}
 use Rattle.wire.specs.declared.traced.Sender.TheVariants as by
 
@@ -40,7 +41,7 @@ one_cent = 0x00 ∷ (0x00 ∷ (0x00 ∷ (0x01 ∷ [])))
 -- Undamaged characters of the terminal and of the card.
 abbrev pub says : Sender → List ℕ → List Traced
 says sender [] = []
-says sender (b ∷ bs) = record { sender = sender; byte = b; damaged = false } ∷ says sender bs
+says sender (b ∷ bs) = record { by_card = is_card sender; byte = b; damaged = false } ∷ says sender bs
 
 -- File 2F01, which holds 41 42, is current.
 abbrev pub selected : Shelf

@@ -6,7 +6,7 @@ use std::process::Abort;
 use std::test::Fail;
 use t0::{Settings, Style};
 use t0link::T0Link;
-use wire::{MarkedLine, Record, Sender, Traced};
+use wire::{MarkedLine, Record, Traced};
 
 const CREDIT: &[u8] = b"\x80\x52\x00\x00\x04\x00\x00\x01\xF4\x00";
 
@@ -15,7 +15,7 @@ const DEBIT: &[u8] = b"\x80\x54\x00\x00\x04\x00\x00\x00\x64\x04";
 const BALANCE: &[u8] = b"\x80\x50\x00\x00\x00";
 
 const BLANK: Traced = Traced {
-    sender: Sender::Terminal,
+    by_card: false,
     byte: 0,
     damaged: false,
 };

@@ -4,7 +4,7 @@ use link::{DirectCard, Link};
 use std::test::Fail;
 use t0::{Settings, Style};
 use t0link::T0Link;
-use wire::{MarkedLine, Record, Sender, Traced};
+use wire::{MarkedLine, Record, Traced};
 
 // SW1 and SW2 of the status, or the refusal.
 fn outcome(r: Result<(usize, Status), Refusal>) -> Result<[u8; 2], Refusal> {
@@ -102,7 +102,7 @@ fn purse_over_t0_is_debited_once(rt: HostRuntime) -> Result<(), Fail> {
     let mut link = T0Link::new(settings, Purse::new(), line);
     let mut answer = [0u8; 256];
     let mut memory = [Traced {
-        sender: Sender::Terminal,
+        by_card: false,
         byte: 0,
         damaged: false,
     }; 400];

@@ -2,6 +2,7 @@ use Rattle.std.proofs.Common.{◌≡◌, ℕ, suc, ◌+◌, ◌-◌, ◌<◌, Bo
 use mathlib.Core.Path.{fun_ext}
 use Rattle.wire.specs.Lines.{Damage, later, carried}
 use Rattle.wire.specs.Records.{Grew}
+use Rattle.wire.specs.Senders.{is_card}
 use Rattle.wire.specs.declared.record.Record.{Record}
 use Rattle.wire.specs.declared.traced.Sender.{Sender}
 use Rattle.wire.specs.declared.traced.Traced.{Traced}
@@ -56,11 +57,13 @@ pub record SoFar (full : Delivered) (d : Damage) (by : Sender) (b i : ℕ) (befo
   pub grew : Grew before now characters
   pub rest : full ≡ after characters (tried d by b (4 - i))
 
-module _ (full : Delivered) (d f : Damage) (by : Sender) (b i : ℕ) (before between beyond : Record Traced) (r : Option ℕ) (none : Bool)
+module _ (full : Delivered) (d f : Damage) (by : Sender) (b i : ℕ) (before between beyond : Record Traced) (r : Option ℕ) (card none : Bool)
     (so_far : SoFar full d by b i before between) (small : i < 4) (gave : r ≡ carried (d 0) b) (left : (k : ℕ) → f k ≡ d (k + 1))
-    (noted : Grew between beyond (traced by b none ∷ [])) (is : is_some r ≡ not none) where
+    (noted : Grew between beyond (record { by_card = card; byte = b; damaged = none } ∷ [])) (of : card ≡ is_card by) (is : is_some r ≡ not none) where
   noted_as : (x : Bool) → none ≡ x → Grew between beyond (traced by b x ∷ [])
-  noted_as x e = subst (λ (y : Bool). Grew between beyond (traced by b y ∷ [])) e noted
+  noted_as x e =
+      subst (λ (y : Bool). Grew between beyond (traced by b y ∷ [])) e
+      (subst (λ (y : Bool). Grew between beyond (record { by_card = y; byte = b; damaged = none } ∷ [])) of noted)
 
   -- It was damaged, and is tried again.
   pub goes_on : is_some r ≡ false → SoFar full f by b (i + 1) before beyond

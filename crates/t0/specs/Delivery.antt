@@ -1,5 +1,6 @@
 use Rattle.std.specs.Prelude.{◌≡◌, ℕ, zero, suc, ◌+◌, Bool, true, false, cond, List, [], ◌∷◌, ◌++◌, ◌==◌}
 use Rattle.wire.specs.Lines.{Damage, later}
+use Rattle.wire.specs.Senders.{is_card}
 use Rattle.wire.specs.declared.traced.Sender.{Sender}
 use Rattle.wire.specs.declared.traced.Traced.{Traced}
 use Rattle.t0.specs.Dialogues.{Word}
@@ -12,7 +13,7 @@ pub record Delivered : Type 0 where
 
 -- A character on the line, and whether it was damaged.
 abbrev pub traced : Sender → ℕ → Bool → Traced
-traced sender b x = record { sender = sender; byte = b; damaged = x }
+traced sender b x = record { by_card = is_card sender; byte = b; damaged = x }
 
 -- A character is sent until it arrives undamaged, at most as many times as given.
 abbrev pub tried : Damage → Sender → ℕ → ℕ → Delivered

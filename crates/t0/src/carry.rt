@@ -16,7 +16,7 @@ pub(crate) fn carry<L: Line>(
     for _ in 0..4u8 {
         let arrived = line.carry(byte);
         trace.note(Traced {
-            sender,
+            by_card: sender.is_card(),
             byte,
             damaged: arrived.is_none(),
         });

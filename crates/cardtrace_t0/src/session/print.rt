@@ -7,14 +7,14 @@ use crate::session::Trouble;
 use link::{Link, Order, take};
 use script::trace::{TurnLabel, character_line, result_line};
 use std::alloc::AllocError;
-use wire::{Record, Sender, Traced};
+use wire::{Record, Traced};
 
 // The places of the trace of one turn: more than any turn has characters where at most 64 are damaged.
 const TRACE_ROOM: usize = 16384;
 
 // An unused place.
 const BLANK: Traced = Traced {
-    sender: Sender::Terminal,
+    by_card: false,
     byte: 0,
     damaged: false,
 };

@@ -1,6 +1,7 @@
 ghost use Rattle.std.specs.Prelude.{◌≡◌, ◌+◌, ◌≤◌, [], ◌∷◌, ◌++◌, length};
 ghost use Rattle.std.specs.Option.{option_map};
 ghost use Rattle.arrayvec.specs.ArrayString.{array_string_len};
+ghost use Rattle.wire.specs.Senders.{sender_of};
 ghost use Rattle.script.specs.Traces.{letter, outcome_text, character_line, turn_line, turn_text, outcome_of, data_of, bad_line};
 
 use crate::text::{push_hex, push_number};
@@ -23,13 +24,13 @@ fn sender_letter(sender: Sender) -> &'static str
 
 // The line of a character.
 pub fn character_line(turn: u64, character: Traced) -> ArrayString<LINE_ROOM>
-    ensures { result.bytes ≡ character_line turn character.sender character.byte character.damaged }
+    ensures { result.bytes ≡ character_line turn (sender_of character) character.byte character.damaged }
 {
     let mut text = ArrayString::new();
     text.push_str("c,");
     push_number(&mut text, turn);
     text.push_str(",");
-    text.push_str(sender_letter(character.sender));
+    text.push_str(sender_letter(character.sender()));
     text.push_str(",");
     push_hex(&mut text, &[character.byte]);
     text.push_str(if character.damaged { ",!\n" } else { ",.\n" });
