@@ -7,24 +7,31 @@ mod player;
 mod session;
 
 use anyhow::anyhow;
+use arrayvec::ArrayString;
 use session::Session;
 use std::env;
 use std::fs::File;
-use std::io::{BufReader, BufWriter, Read, Write};
+use std::io::{BufWriter, Read, Write};
 
 // Plays the script that an input holds.
-fn play<R: Read + Drop, W: Write>(
-    rt: &HostRuntime,
-    input: R,
-    output: &mut W,
-) -> anyhow::Result<()> {
+fn play<R: Read, W: Write>(input: &mut R, output: &mut W) -> anyhow::Result<()> {
     let Ok(mut session) = Session::new() else {
         return Err(anyhow!("the card could not be made"));
     };
-    for byte in BufReader::new(rt.alloc(), input)?.bytes() {
-        output.write_all(session.push(byte?).as_bytes())?;
+    let mut text = ArrayString::new();
+    for _ in 0..u64::MAX {
+        let mut chunk = [0u8; 4096];
+        let count = input.read(&mut chunk)?;
+        if count == 0 {
+            break;
+        }
+        for byte in &chunk[..count] {
+            session.push(*byte, &mut text);
+            output.write_all(text.as_bytes())?;
+        }
     }
-    output.write_all(session.finish().as_bytes())?;
+    session.finish(&mut text);
+    output.write_all(text.as_bytes())?;
     output.flush()?;
     Ok(())
 }
@@ -46,8 +53,8 @@ fn run(rt: &HostRuntime) -> anyhow::Result<()> {
     )?;
     let mut output = BufWriter::new(rt.alloc(), rt.stdout())?;
     match named {
-        Some(path) => play(rt, File::open(rt, path.as_str())?, &mut output),
-        None => play(rt, rt.stdin(), &mut output),
+        Some(path) => play(&mut File::open(rt, path.as_str())?, &mut output),
+        None => play(&mut rt.stdin(), &mut output),
     }
 }
 

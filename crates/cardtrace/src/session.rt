@@ -38,37 +38,38 @@ impl Session {
         })
     }
 
-    // Takes the next byte of the script, and gives what is to be printed.
-    pub fn push(&mut self, byte: u8) -> ArrayString<LINE_ROOM>
+    // Takes the next byte of the script. The text becomes what is to be printed.
+    pub fn push(&mut self, byte: u8, text: &mut ArrayString<LINE_ROOM>)
         ensures after { self.new ≡ (takes self.old byte).after }
-        ensures text { result.bytes ≡ (takes self.old byte).text }
+        ensures text { text.new.bytes ≡ (takes self.old byte).text }
     {
         let step = self.reader.push(byte);
-        self.play(step)
+        self.play(step, text);
     }
 
     // Takes the end of the script, likewise.
-    pub fn finish(&mut self) -> ArrayString<LINE_ROOM>
+    pub fn finish(&mut self, text: &mut ArrayString<LINE_ROOM>)
         ensures after { self.new ≡ (ends self.old).after }
-        ensures text { result.bytes ≡ (ends self.old).text }
+        ensures text { text.new.bytes ≡ (ends self.old).text }
     {
         let step = self.reader.finish();
-        self.play(step)
+        self.play(step, text);
     }
 
     // Plays what the reader told.
-    fn play(&mut self, step: Result<Option<Line>, Refusal>) -> ArrayString<LINE_ROOM>
+    fn play(&mut self, step: Result<Option<Line>, Refusal>, text: &mut ArrayString<LINE_ROOM>)
         ensures after { self.new ≡ (plays self.old step).after }
-        ensures text { result.bytes ≡ (plays self.old step).text }
+        ensures text { text.new.bytes ≡ (plays self.old step).text }
     {
         match step {
-            Ok(None | Some(Line::Link(_) | Line::Damage(_))) => ArrayString::new(),
+            Ok(None | Some(Line::Link(_) | Line::Damage(_))) => text.clear(),
             Ok(Some(Line::Send { program, .. })) => {
-                self.player
-                    .play(program, Order::Send(self.reader.command()))
+                *text = self
+                    .player
+                    .play(program, Order::Send(self.reader.command()));
             }
-            Ok(Some(Line::Reset { program })) => self.player.play(program, Order::Reset),
-            Err(Refusal::BadLine { line }) => bad_line(line),
+            Ok(Some(Line::Reset { program })) => *text = self.player.play(program, Order::Reset),
+            Err(Refusal::BadLine { line }) => *text = bad_line(line),
         }
     }
 }

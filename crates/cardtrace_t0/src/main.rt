@@ -6,26 +6,48 @@
 mod session;
 
 use anyhow::anyhow;
-use session::Session;
+use session::{Session, Trouble};
 use std::env;
 use std::fs::File;
-use std::io::{BufReader, BufWriter, Read, Write};
+use std::io::{BufWriter, Read, Write};
+
+// Writes what a step of the session printed. Where the session fails, what was played before is written out first.
+fn write_played<W: Write>(
+    played: Result<(), Trouble>,
+    text: &mut Vec<u8>,
+    output: &mut W,
+) -> anyhow::Result<()> {
+    if let Err(trouble) = played {
+        output.flush()?;
+        return Err(trouble.into());
+    }
+    output.write_all(text)?;
+    text.clear();
+    Ok(())
+}
 
 // Plays the script that an input holds; whether it was played on the direct card.
-fn play<R: Read + Drop, W: Write>(
+fn play<R: Read, W: Write>(
     rt: &HostRuntime,
-    input: R,
+    input: &mut R,
     output: &mut W,
 ) -> anyhow::Result<bool> {
     let mut session = Session::new();
     let mut text = Vec::new(rt.alloc());
-    for byte in BufReader::new(rt.alloc(), input)?.bytes() {
-        session.push(byte?, &mut text)?;
-        output.write_all(&text)?;
-        text.clear();
+    for _ in 0..u64::MAX {
+        let mut chunk = [0u8; 4096];
+        let count = input.read(&mut chunk)?;
+        if count == 0 {
+            break;
+        }
+        for byte in &chunk[..count] {
+            let played = session.push(*byte, &mut text);
+            write_played(played, &mut text, output)?;
+        }
     }
-    session.finish(&mut text)?;
-    output.write_all(&text)?;
+    let played = session.finish(&mut text);
+    write_played(played, &mut text, output)?;
+    output.flush()?;
     Ok(session.is_direct())
 }
 
@@ -40,14 +62,13 @@ fn argument(rt: &HostRuntime) -> anyhow::Result<Option<String>> {
 }
 
 fn run(rt: &HostRuntime) -> anyhow::Result<()> {
+    let named = argument(rt)?;
     let mut output = BufWriter::new(rt.alloc(), rt.stdout())?;
-    let played = match argument(rt)? {
-        Some(path) => play(rt, File::open(rt, path.as_str())?, &mut output),
-        None => play(rt, rt.stdin(), &mut output),
+    let direct = match named {
+        Some(path) => play(rt, &mut File::open(rt, path.as_str())?, &mut output)?,
+        None => play(rt, &mut rt.stdin(), &mut output)?,
     };
-    // What was played before a failure is printed too.
-    output.flush()?;
-    if played? {
+    if direct {
         eprintln!(rt;
             "cardtrace: T=1 is played on the direct card as yet: no character lines, and damage has no effect"
         )?;
