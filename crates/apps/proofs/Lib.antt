@@ -4,4 +4,5 @@ pub mod PurseLaws
 pub mod FilePlaces
 pub mod FileShelves
 pub mod FileContents
+pub mod FileStock
 pub mod PurseSums
