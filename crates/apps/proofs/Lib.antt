@@ -1,6 +1,7 @@
 pub mod PurseBalances
 pub mod PursePlaces
 pub mod PurseLaws
+pub mod PurseKept
 pub mod FilePlaces
 pub mod FileShelves
 pub mod FileContents
