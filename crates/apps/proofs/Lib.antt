@@ -1,3 +1,4 @@
+pub mod PurseAmounts
 pub mod PurseBalances
 pub mod PursePlaces
 pub mod PurseLaws
@@ -5,5 +6,6 @@ pub mod PurseKept
 pub mod FilePlaces
 pub mod FileShelves
 pub mod FileContents
+pub mod FileTables
 pub mod FileStock
 pub mod PurseSums
