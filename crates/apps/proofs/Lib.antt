@@ -1,7 +1,11 @@
+pub mod PurseAmounts
 pub mod PurseBalances
 pub mod PursePlaces
 pub mod PurseLaws
+pub mod PurseKept
 pub mod FilePlaces
 pub mod FileShelves
 pub mod FileContents
+pub mod FileTables
+pub mod FileStock
 pub mod PurseSums

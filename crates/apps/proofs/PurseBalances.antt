@@ -1,4 +1,4 @@
-use Rattle.std.specs.Prelude.{◌≡◌, zero, suc, ◌<◌, ◌≤◌, T, List, [], ◌∷◌, ◌++◌, length, take, ℤ, pos, ◌+ℤ◌, FitsSigned, nat_le, unsigned_abs, refl}
+use Rattle.std.specs.Prelude.{◌≡◌, ℕ, zero, suc, ◌<◌, ◌≤◌, T, List, [], ◌∷◌, ◌++◌, length, take, ℤ, pos, ◌+ℤ◌, FitsSigned, nat_le, unsigned_abs, refl}
 use Rattle.std.proofs.Common.{sym, subst, ⊎_elim, arith, Fits}
 use Rattle.std.specs.Int.Signed.{non_neg}
 use Rattle.std.specs.Int.{w32}
@@ -15,6 +15,19 @@ pub balance_joined : (ms : List ℤ) → balance (joined ms) ≡ balance ms
 balance_joined [] = refl
 balance_joined (m ∷ []) = refl
 balance_joined (m ∷ (n ∷ ms)) = omega (arith, ints)
+
+-- Movements of 0 have a balance of 0, and are sound; so are none.
+abbrev Zeros : List ℤ → Type 0
+Zeros [] = Unit {0}
+Zeros (m ∷ ms) = (m ≡ pos 0) × Zeros ms
+
+balance_zeros : (ms : List ℤ) (n : ℕ) → Zeros ms → balance (take n ms) ≡ pos 0
+balance_zeros ms zero h = refl
+balance_zeros [] (suc n) h = refl
+balance_zeros (m ∷ ms) (suc n) h = let e = balance_zeros ms n h.1 in omega (arith, ints, h.0)
+
+pub sound_zeros : (ms : List ℤ) → Zeros ms → Sound ms
+sound_zeros ms h n = subst (λ (b : ℤ). T (within b)) (sym (balance_zeros ms n h)) tt
 
 sound_joined : (ms : List ℤ) → Sound ms → Sound (joined ms)
 sound_joined [] h k = h k

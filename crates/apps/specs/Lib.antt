@@ -2,6 +2,7 @@ pub mod Replies
 pub mod Purse
 pub mod PurseState
 pub mod Files
+pub mod FileStock
 pub mod FileTables
 pub mod FilePlaces
 pub mod FileValues

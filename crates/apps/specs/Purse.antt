@@ -132,3 +132,11 @@ DebitTakes = (ms : List ℤ) (body : List ℕ) → (purse_run ms 0x80 0x54 0 0 b
 abbrev pub RefusalKeeps : Type 0
 RefusalKeeps = (ms : List ℤ) (cla ins p1 p2 : ℕ) (body : List ℕ) → ((purse_run ms cla ins p1 p2 body).reply.status ≢ done)
     → (purse_run ms cla ins p1 p2 body).state ≡ ms
+
+-- What is kept stays kept, whatever a command's bytes and its data.
+abbrev pub RunsKeepKept : Type 0
+RunsKeepKept = (ms : List ℤ) (cla ins p1 p2 : ℕ) (body : List ℕ) → Kept ms → Kept (purse_run ms cla ins p1 p2 body).state
+
+-- So it does over a reset.
+abbrev pub ResetsKeepKept : Type 0
+ResetsKeepKept = (ms : List ℤ) → Kept ms → Kept (purse_reset ms)

@@ -24,12 +24,13 @@ pub struct Files {
 }
 
 impl Model for Files {
-    ghost use Rattle.std.specs.Prelude.{◌≤◌, length};
     ghost use Rattle.apps.specs.Files.{Shelf};
+    ghost use Rattle.apps.specs.FileStock.{Stocked};
 
     ghost Value = { Shelf };
 
+    // They are seen as the files, in the order of the table, and the id of the current one.
     ghost view = { λ f. record { files = f.slots.items; current = f.current } };
 
-    ghost invariant = { λ f. length f.slots.items ≤ 8 };
+    ghost invariant = { λ f. Stocked (record { files = f.slots.items; current = f.current }) };
 }

@@ -19,6 +19,7 @@ impl Model for Purse {
 
     ghost Value = { List ℤ };
 
+    // It is seen as its movements, the oldest first.
     ghost view = { λ p. p.movements.items };
 
     ghost invariant = { λ p. Kept p.movements.items };

@@ -14,6 +14,7 @@ impl Model for Slot {
 
     ghost Value = { File };
 
+    // It is seen as the file that lies in it.
     ghost view = { λ s. record { id = s.id; bytes = s.bytes.items } };
 
     ghost invariant = { λ s. length s.bytes.items ≤ 256 };

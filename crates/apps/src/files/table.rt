@@ -1,5 +1,6 @@
-ghost use Rattle.std.specs.Prelude.{◌≡◌};
+ghost use Rattle.std.specs.Prelude.{◌≡◌, length, IfOk};
 ghost use Rattle.apps.specs.FileTables.{has_id, distinct, shelf_of};
+ghost use Rattle.apps.specs.FileStock.{Stocked, RunsKeepStocked, ResetsKeepStocked};
 ghost use Rattle.apps.specs.FileValues.{shelf_if};
 
 use crate::files::slot::Slot;
@@ -25,9 +26,13 @@ fn are_distinct(table: &[Entry]) -> bool
 }
 
 impl Files {
-    // The files of a table, with their content out of lent bytes; no file is current.
+    // The files of a table, with their content out of lent bytes; no file is current. They are at most 8, each of at most 256
+    // bytes. The last two clauses are laws of the files: no command and no reset makes them more or longer than that.
     pub fn new(table: &[Entry], contents: &[u8]) -> Result<Files, SettingRefusal>
-        ensures { shelf_if result ≡ shelf_of table.now contents.now }
+        ensures value { shelf_if result ≡ shelf_of table.now contents.now }
+        ensures made { IfOk result Stocked }
+        ensures runs { RunsKeepStocked }
+        ensures resets { ResetsKeepStocked }
     {
         if table.is_empty() || table.len() > PLACES || !are_distinct(table) {
             return Err(SettingRefusal::OutsideLimits);
@@ -41,5 +46,13 @@ impl Files {
             slots,
             current: None,
         })
+    }
+
+    // How many files there are: at most 8, and each has at most 256 bytes.
+    pub fn count(&self) -> usize
+        ensures value { result ≡ length self.now.files }
+        ensures kept { Stocked self.now }
+    {
+        self.slots.len()
     }
 }

@@ -121,6 +121,16 @@ fn commands_on_the_longest_file(rt: HostRuntime) -> Result<(), Fail> {
     Ok(())
 }
 
+#[test]
+fn count_of_the_files(rt: HostRuntime) -> Result<(), Fail> {
+    let table = [entry(0x2f01, 0, 1), entry(0x2f02, 0, 2)];
+    let Ok(files) = Files::new(&table, &[0x41, 0x42]) else {
+        return Err(Fail::new("the table is within its limits"));
+    };
+    assert_eq!(rt; files.count(), 2);
+    Ok(())
+}
+
 fn is_refused(table: &[Entry], contents: &[u8]) -> bool {
     match Files::new(table, contents) {
         Ok(_) => false,

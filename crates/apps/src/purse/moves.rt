@@ -1,5 +1,5 @@
 ghost use Rattle.std.specs.Prelude.{◌≡◌, ◌≤◌, [], pos, ◌+ℤ◌};
-ghost use Rattle.apps.specs.Purse.{four_bytes, balance, limit, within, move_by, Kept, JoiningKeeps, CreditAdds, DebitTakes, RefusalKeeps};
+ghost use Rattle.apps.specs.Purse.{four_bytes, balance, limit, within, move_by, Kept, JoiningKeeps, CreditAdds, DebitTakes, RefusalKeeps, RunsKeepKept, ResetsKeepKept};
 ghost use Rattle.apps.specs.Replies.{gives};
 
 use crate::purse::{LIMIT, Purse};
@@ -19,7 +19,8 @@ impl Purse {
     // The balance: the sum of the movements, which never leaves its limits; they are at most 32, and it lay in its limits after
     // each of them. The other clauses are the laws of the purse:
     // joining movements keeps the balance, an accepted credit adds its amount to it, an accepted debit takes its amount off,
-    // and a refused command changes nothing.
+    // and a refused command changes nothing; a purse with no movements is within these limits, and no command and no reset
+    // leads out of them.
     pub fn balance(&self) -> u32
         ensures value { pos result ≡ balance self.now }
         ensures limits { result ≤ limit }
@@ -28,6 +29,9 @@ impl Purse {
         ensures credit { CreditAdds }
         ensures debit { DebitTakes }
         ensures refusal { RefusalKeeps }
+        ensures empty { Kept [] }
+        ensures runs { RunsKeepKept }
+        ensures resets { ResetsKeepKept }
     {
         let sum: i32 = self.movements.iter().sum();
         sum as u32

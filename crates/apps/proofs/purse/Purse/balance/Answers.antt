@@ -4,6 +4,7 @@ use Rattle.apps.specs.Purse.{balance}
 use Rattle.apps.proofs.PurseSums.{run_fits, run_whole}
 use Rattle.apps.proofs.PurseBalances.{sound_whole, cents_of, cents_limit, cents_fit}
 use Rattle.apps.proofs.PurseLaws.{credit_adds, debit_takes}
+use Rattle.apps.proofs.PurseKept.{runs_keep_kept}
 use Rattle.apps.proofs.purse.Purse.balance.Goals as goal
 use Rattle.apps.proofs.purse.Purse.balance.Goals.{After-sum-sum}
 
@@ -36,3 +37,6 @@ returns-clause-credit c = credit_adds
 
 pub returns-clause-debit : goal.returns-clause-debit
 returns-clause-debit c = debit_takes
+
+pub returns-clause-runs : goal.returns-clause-runs
+returns-clause-runs c = runs_keep_kept
