@@ -1,5 +1,6 @@
-use Rattle.std.proofs.Common.{◌≡◌, ℕ, zero, suc, ◌^◌, ◌<◌, ◌≤◌, Bool, true, false, cond, ◌&&◌, leb, List, [], ◌∷◌, length, get_or, Some, None, Ok, Err, Result, sym, refl, ◌∙◌, arith}
+use Rattle.std.proofs.Common.{◌≡◌, ℕ, zero, suc, ◌^◌, ◌<◌, ◌≤◌, Bool, true, false, cond, ◌&&◌, leb, List, [], ◌∷◌, length, get_or, Some, None, Ok, Err, decimal, Option, Result, sym, refl, ap, ◌∙◌, arith}
 use Rattle.std.proofs.lemmas.Bool.Decides.{nat_tests}
+use Rattle.std.proofs.lemmas.Fmt.{length-decimal-le}
 use Rattle.std.proofs.lemmas.Str.{IsUtf8-from_ascii}
 use Rattle.std.proofs.lemmas.Str.Parse.{parse_digits}
 use Rattle.std.specs.Ordering.{is_le, nat_cmp}
@@ -8,7 +9,7 @@ use Rattle.std.specs.Str.{IsUtf8}
 use Rattle.std.specs.Str.Parse.{ParsesUnsigned}
 use Rattle.script.specs.Fields.{is_digit, all_digits, well_led, value_after, number}
 use Rattle.script.proofs.Hexes.{and_left, and_right}
-use Rattle.script.proofs.Inversions.{own}
+use Rattle.script.proofs.Inversions.{own, number_inv}
 
 -- `<=` by the order of numbers
 pub le_cmp : (a b : ℕ) → is_le (nat_cmp a b) ≡ leb a b
@@ -69,3 +70,14 @@ unparsed {E = E} low high text t r e f p h g =
 pub refused_utf8 : {X E : Type 0} (P : X → Type 0) (Q : E → Type 0) (text : List ℕ) (r : Result X E) → numeral text ≡ true → MatchResult r P (λ e. ¬ (IsUtf8 text) × Q e) → result_ok r ≡ None → ⊥
 refused_utf8 P Q text (Ok x) e m g = grind arith
 refused_utf8 P Q text (Err x) e m g = m.0 (utf8_numeral text e)
+
+-- a text of more than five bytes is no number of 16 bits
+pub number_long : (low high : ℕ) (text : List ℕ) → 5 < length text → high < 65536 → number low high text ≡ None
+number_long low high text h k = by (number low high text) refl
+  where
+    by : (o : Option ℕ) → number low high text ≡ o → o ≡ None
+    by None e = refl
+    by (Some n) e =
+        let f = number_inv low high text n (omega arith) e in
+        let g = length-decimal-le 5 n (omega arith) (omega arith) (omega arith) in
+        absurd (omega (arith, g, ap length f.0))
