@@ -9,3 +9,5 @@ pub mod Backwards
 pub mod HexTexts
 pub mod Numbers
 pub mod Words
+pub mod Openings
+pub mod TraceTexts

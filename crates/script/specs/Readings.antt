@@ -1,4 +1,4 @@
-use Rattle.std.specs.Prelude.{ℕ, Bool, true, false, cond, List, [], ◌∷◌, ◌++◌, length, Some, None, Ok, Err, Option, Result, ◌==◌, nat_lt}
+use Rattle.std.specs.Prelude.{ℕ, ◌≤◌, Bool, true, false, cond, List, [], ◌∷◌, ◌++◌, length, Some, None, Ok, Err, Option, Result, ◌==◌, nat_lt}
 use Rattle.script.specs.declared.reader.Stage.{Stage}
 use Rattle.script.specs.declared.reader.Stage.TheVariants.{Start}
 use Rattle.script.specs.declared.reader.Refusal.TheVariants.{BadLine}
@@ -14,6 +14,10 @@ pub record Reading : Type 0 where
   pub part : List ℕ
   pub command : List ℕ
   pub over : Bool
+
+-- The line under way has at most 609 bytes, and the command that is held at most 300.
+abbrev pub FitsRoom : Reading → Type 0
+FitsRoom r = (length r.part ≤ 609) × (length r.command ≤ 300)
 
 -- What a byte, or the end, brings: nothing yet, a line, or the number of a bad line.
 pub data Out : Type 0 where

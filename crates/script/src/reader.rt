@@ -31,6 +31,7 @@ impl Model for Reader {
 
     ghost Value = { Reading };
 
+    // A reader is seen as a reading with all of its fields: of the current line and of the command their bytes, the others as they stand.
     ghost view = { λ r. record { number = r.number; stage = r.stage; part = r.part.items; command = r.command.items; over = r.over } };
 }
 

@@ -30,10 +30,16 @@ fn is_numeral(text: &[u8]) -> bool
     is_well_led(text) && text.iter().all(|b| b.is_ascii_digit())
 }
 
-// A number from `low` to `high`, written in plain decimal.
+// The digits of the longest number, 65535.
+const DIGITS_MAX: usize = 5;
+
+// A number from `low` to `high`, written in plain decimal. A text that is too long is refused before its digits are looked at.
 pub fn read_number(text: &[u8], low: u16, high: u16) -> Option<u16>
     ensures { result ≡ number low high text.now }
 {
+    if text.len() > DIGITS_MAX {
+        return None;
+    }
     if !is_numeral(text) {
         return None;
     }

@@ -16,10 +16,13 @@ fn hex_value(digit: u8) -> Option<u8>
     }
 }
 
-// Reads the hex digits of a command.
+// Reads the hex digits of a command. More digits than a command has are refused before any is read.
 pub fn read_command(digits: &[u8]) -> Option<ArrayVec<u8, COMMAND_MAX>>
     ensures { option_map (λ command. command.items) result ≡ command_of digits.now }
 {
+    if digits.len() > 2 * COMMAND_MAX {
+        return None;
+    }
     let mut command = ArrayVec::new();
     let mut rest = digits;
     while let [high, low, after @ ..] = rest {

@@ -1,7 +1,7 @@
 ghost use Rattle.std.specs.Prelude.{◌≡◌, Err};
-ghost use Rattle.script.specs.Readings.{fresh, fed, finished, grown, line_ended, refused, shown};
+ghost use Rattle.script.specs.Readings.{FitsRoom, fresh, fed, finished, grown, line_ended, refused, shown};
 
-use crate::line::{Line, parse};
+use crate::line::{LINE_MAX, Line, parse};
 use crate::reader::{Reader, Refusal, Stage};
 use arrayvec::ArrayVec;
 
@@ -51,8 +51,10 @@ impl Reader {
 
     // The command of the last send line.
     pub fn command(&self) -> &[u8]
-        ensures { result.now ≡ self.now.command }
+        ensures command { result.now ≡ self.now.command }
+        ensures fits { FitsRoom self.now }
     {
+        prove!(self.part.len() <= LINE_MAX);
         self.command.as_slice()
     }
 

@@ -1,7 +1,12 @@
-use Rattle.std.proofs.Common.{◌≡◌, ◌&&◌, ◌<◌, cond, leb, Bool, true, false, refl, Some, None, sym, ◌∙◌, rules}
+use Rattle.std.proofs.Common.{◌≡◌, ◌&&◌, ◌<◌, cond, leb, Bool, true, false, refl, Some, None, sym, ◌∙◌, arith, rules}
 use Rattle.std.specs.Bool.{then_some}
-use Rattle.script.proofs.Numbers.{le_cmp, parsed, unparsed, refused_utf8}
+use Rattle.script.proofs.Numbers.{le_cmp, parsed, unparsed, refused_utf8, number_long}
 use Rattle.script.proofs.line.field.read_number.Goals as goal
+
+pub returns-then-text-gt-DIGITS_MAX : goal.returns-then-text-gt-DIGITS_MAX
+returns-then-text-gt-DIGITS_MAX c =
+    let h : c.args.high < 65536 = search rules in
+    sym (number_long c.args.low c.args.high c.args.text.now (omega arith) h)
 
 pub returns-in_err-ok : goal.returns-in_err-ok
 returns-in_err-ok c =
