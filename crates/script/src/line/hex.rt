@@ -26,9 +26,7 @@ pub fn read_command(digits: &[u8]) -> Option<ArrayVec<u8, COMMAND_MAX>>
     let mut command = ArrayVec::new();
     let mut rest = digits;
     while let [high, low, after @ ..] = rest {
-        command
-            .try_push(hex_value(*high)? * 16 + hex_value(*low)?)
-            .ok()?;
+        command.push(hex_value(*high)? * 16 + hex_value(*low)?);
         rest = after;
     }
     if rest.is_empty() { Some(command) } else { None }
