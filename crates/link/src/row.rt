@@ -25,6 +25,7 @@ impl Row {
     ghost use Rattle.link.specs.Rows.{row_of_result};
 
     // The row of a turn with this result, its answer from `place` on.
+    #[inline]
     pub(crate) fn of(
         program: u8,
         place: usize,

@@ -24,6 +24,7 @@ impl Turn {
     ghost use Rattle.link.specs.Turns.{ordered};
 
     // What the turn orders, its command read in place from the lent bytes.
+    #[inline]
     pub fn order(self, commands: &[u8]) -> Order<'_>
         ensures { meant_order result ≡ ordered commands.now self }
     {
@@ -36,6 +37,7 @@ impl Turn {
 }
 
 // The command at a place in lent bytes; past their end it is empty, which is malformed.
+#[inline]
 fn command_at(commands: &[u8], start: usize, length: usize) -> &[u8]
     ensures { result.now ≡ placed commands.now start length }
 {
