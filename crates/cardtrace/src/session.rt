@@ -44,7 +44,12 @@ impl Session {
         ensures text { text.new.bytes ≡ (takes self.old byte).text }
     {
         let step = self.reader.push(byte);
-        self.play(step, text);
+        // Most bytes bring nothing yet.
+        if matches!(step, Ok(None)) {
+            text.clear();
+        } else {
+            self.play(step, text);
+        }
     }
 
     // Takes the end of the script, likewise.
