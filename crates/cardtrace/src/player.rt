@@ -23,6 +23,7 @@ impl Model for Player {
 
     ghost Value = { Playing };
 
+    // A player is seen as the card, by what it means, and the number of the coming turn.
     ghost view = { λ p. record { card = meant files_app p.card; turn = p.turn } };
 }
 

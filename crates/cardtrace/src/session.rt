@@ -22,6 +22,7 @@ impl Model for Session {
 
     ghost Value = { Tracing };
 
+    // A session is seen as its reading of the script and its playing.
     ghost view = { λ s. record { reading = s.reader; playing = s.player } };
 }
 

@@ -11,19 +11,10 @@ use std::env;
 use std::fs::File;
 use std::io::{BufWriter, Read, Write};
 
-// Writes what a step of the session printed. Where the session fails, what was played before is written out first.
-fn write_played<W: Write>(
-    played: Result<(), Trouble>,
-    text: &mut Vec<u8>,
-    output: &mut W,
-) -> anyhow::Result<()> {
-    if let Err(trouble) = played {
-        output.flush()?;
-        return Err(trouble.into());
-    }
-    output.write_all(text)?;
-    text.clear();
-    Ok(())
+// Ends the playing at a failure of the session: what was played before it is written out first.
+fn fail<W: Write>(trouble: Trouble, output: &mut W) -> anyhow::Result<bool> {
+    output.flush()?;
+    Err(trouble.into())
 }
 
 // Plays the script that an input holds; whether it was played on the direct card.
@@ -41,12 +32,17 @@ fn play<R: Read, W: Write>(
             break;
         }
         for byte in &chunk[..count] {
-            let played = session.push(*byte, &mut text);
-            write_played(played, &mut text, output)?;
+            if let Err(trouble) = session.push(*byte, &mut text) {
+                return fail(trouble, output);
+            }
+            output.write_all(&text)?;
+            text.clear();
         }
     }
-    let played = session.finish(&mut text);
-    write_played(played, &mut text, output)?;
+    if let Err(trouble) = session.finish(&mut text) {
+        return fail(trouble, output);
+    }
+    output.write_all(&text)?;
     output.flush()?;
     Ok(session.is_direct())
 }
